@@ -1,0 +1,5 @@
+-- The laws, for the crates above.
+pub mod Digits
+pub mod Bits
+pub mod Computed
+pub mod Reflect

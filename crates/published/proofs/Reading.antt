@@ -1,0 +1,57 @@
+-- Reading bytes as a number and writing a number as bytes are each other's inverse, for every length.
+use mathlib.Core.Path.{_≡_, refl, sym, ap, ap₂, _∙_}
+use mathlib.Core.List.{List, [], _∷_}
+use Prim.Native.Nat.{ℕ, zero, suc, _+_, _*_, _^_, _<_}
+use native.Mathlib.Nat.{le-refl, le-of-suc-le, le-of-suc-le-suc, pow-succ'}
+use lib.Arith.{digits-lt}
+use lib.Dec.{lit<}
+use lib.ListN.{length, getD}
+use Rattle.bits.specs.Digit.{digit, number}
+use Rattle.bits.proofs.Digits.{number-digit, digit-lt, digit-top, digit-below}
+use Rattle.published.specs.Bytes.{fromBytes, toBytes}
+
+base : zero < 256
+base = lit< tt
+
+pub length-toBytes : (k x : ℕ) → length (toBytes k x) ≡ k
+unfolding toBytes
+length-toBytes zero x = refl
+length-toBytes (suc k) x = ap suc (length-toBytes k x)
+
+-- every element is a byte: so said, it is what a slice of bytes is known to be
+abbrev pub Bytes : List ℕ → Type 0
+Bytes bs = (i : ℕ) → getD bs i 0 < 256
+
+pub toBytes-bytes : (k x : ℕ) → Bytes (toBytes k x)
+unfolding toBytes
+toBytes-bytes zero x i = base
+toBytes-bytes (suc k) x zero = digit-lt 256 base x k
+toBytes-bytes (suc k) x (suc i) = toBytes-bytes k x i
+
+pub fromBytes-lt : (bs : List ℕ) → Bytes bs → fromBytes bs < 256 ^ length bs
+unfolding fromBytes
+fromBytes-lt [] h = lit< tt
+fromBytes-lt (b ∷ bs) h = rw pow-succ' (digits-lt (h 0) (fromBytes-lt bs (λ i. h (suc i))))
+
+read-digits : (k x : ℕ) → fromBytes (toBytes k x) ≡ number 256 k (digit 256 x)
+unfolding fromBytes toBytes number
+read-digits zero x = refl
+read-digits (suc k) x = ap₂ (λ (l y : ℕ). digit 256 x k * 256 ^ l + y) (length-toBytes k x) (read-digits k x)
+
+-- a number of k bytes, written and read
+pub from-to : (k x : ℕ) → x < 256 ^ k → fromBytes (toBytes k x) ≡ x
+from-to k x h = read-digits k x ∙ number-digit 256 base k x h
+
+-- the low bytes are those of the rest, whatever stands above them
+toBytes-low : (k n d r : ℕ) → k < suc n → toBytes k (d * 256 ^ n + r) ≡ toBytes k r
+unfolding toBytes
+toBytes-low zero n d r h = refl
+toBytes-low (suc k) n d r h = ap₂ _∷_ (digit-below 256 base n d r k (le-of-suc-le-suc h)) (toBytes-low k n d r (le-of-suc-le h))
+
+-- bytes read and written
+pub to-from : (bs : List ℕ) → Bytes bs → toBytes (length bs) (fromBytes bs) ≡ bs
+unfolding fromBytes toBytes
+to-from [] h = refl
+to-from (b ∷ bs) h =
+    ap₂ _∷_ (digit-top 256 base (length bs) b (fromBytes bs) (h 0) (fromBytes-lt bs (λ i. h (suc i))))
+    (toBytes-low (length bs) (length bs) b (fromBytes bs) (le-refl (suc (length bs))) ∙ to-from bs (λ i. h (suc i)))
