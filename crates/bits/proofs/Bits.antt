@@ -2,10 +2,11 @@
 use mathlib.Core.Path.{_≡_, refl, sym, ap, ap₂, _∙_}
 use mathlib.Core.Bool.{Bool, true, false, _&&_, _||_}
 use mathlib.Core.Logic.{⊎-elim}
-use Prim.Native.Nat.{ℕ, zero, suc, _+_, _*_, _/_, _%_, _^_, _≤_, _<_}
-use native.Mathlib.Nat.{le-refl, le-step, zero-lt-suc, le-of-suc-le-suc, not-suc-le-zero, eq-or-lt-of-le, ne-of-lt, zero-add, zero-mul, add-left-comm, mod-lt}
+use Prim.Native.Nat.{ℕ, zero, suc, _+_, _-_, _*_, _/_, _%_, _^_, _≤_, _<_}
+use native.Mathlib.Nat.{le-refl, le-step, zero-lt-suc, le-of-suc-le-suc, not-suc-le-zero, eq-or-lt-of-le, ne-of-lt, zero-add, zero-mul, add-left-comm, add-sub-of-le, mod-lt}
 use lib.Bits.{bitAnd, bitOr, bitXor, and-shr, or-shr, xor-shr, and-mod, or-mod, xor-mod}
-use lib.Dec.{lit<}
+use borrow.Author.Tests.{leb-true, leb-false}
+use lib.Dec.{leb, lit<}
 use lib.Pow.{pow-pos}
 use Rattle.bits.specs.Digit.{digit, number, isOne, one, bit, ofBits, _⊕_}
 use Rattle.bits.proofs.Digits.{number-cong, number-lt, number-digit, digit-lt, digit-number, digit-top, digit-below, digit-out, digit-shr, digit-shl, digit-shl-low, digit-mod, digit-digit}
@@ -100,6 +101,14 @@ bit-mod x n i h = ap isOne (digit-mod 2 two x n i h)
 
 pub bit-mod-out : (x n i : ℕ) → n ≤ i → bit (x % 2 ^ n) i ≡ false
 bit-mod-out x n i l = bit-out n (x % 2 ^ n) i (mod-lt x (pow-pos n)) l
+
+-- a word of w bits shifted left by k places
+pub bit-shl-cut : (w x k i : ℕ) → i < w → bit (x * 2 ^ k % 2 ^ w) i ≡ (leb k i && bit x (i - k))
+bit-shl-cut w x k i h = bit-mod (x * 2 ^ k) w i h ∙ go (leb k i) refl
+  where
+    go : (t : Bool) → leb k i ≡ t → bit (x * 2 ^ k) i ≡ (t && bit x (i - k))
+    go true e = ap (bit (x * 2 ^ k)) (sym (add-sub-of-le (leb-true k i e))) ∙ bit-shl x k (i - k)
+    go false e = bit-shl-low x k i (leb-false k i e)
 
 -- hi ‖ lo, lo being of k bits
 pub bit-join-low : (k hi lo i : ℕ) → i < k → bit (hi * 2 ^ k + lo) i ≡ bit lo i

@@ -303,7 +303,7 @@ module _ (vs ρ : List ℕ) (w : ℕ) (inside : Within vs ρ) where
 -- ---- the computed test
 
 -- an expression has no more than w bits
-abbrev sized : List ℕ → ℕ → W → Bool
+abbrev pub sized : List ℕ → ℕ → W → Bool
 sized vs w (var k) = leb (getD vs k 0) w
 sized vs w (lit n) = ltb n (2 ^ w)
 sized vs w (and a b) = sized vs w a && sized vs w b

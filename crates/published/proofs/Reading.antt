@@ -1,12 +1,15 @@
 -- Reading bytes as a number and writing a number as bytes are each other's inverse, for every length.
 use mathlib.Core.Path.{_≡_, refl, sym, ap, ap₂, _∙_}
 use mathlib.Core.List.{List, [], _∷_}
-use Prim.Native.Nat.{ℕ, zero, suc, _+_, _*_, _^_, _<_}
-use native.Mathlib.Nat.{le-refl, le-of-suc-le, le-of-suc-le-suc, pow-succ'}
+use mathlib.Core.Logic.{⊎-elim}
+use Prim.Native.Nat.{ℕ, zero, suc, _+_, _-_, _*_, _/_, _%_, _^_, _<_}
+use native.Mathlib.Nat.{le-refl, le-of-suc-le, le-of-suc-le-suc, not-suc-le-zero, eq-or-lt-of-le, pow-succ', div-add-mod, mod-lt}
+use native.Mathlib.Omega.{arith}
 use lib.Arith.{digits-lt}
 use lib.Dec.{lit<}
 use lib.ListN.{length, getD}
-use Rattle.bits.specs.Digit.{digit, number}
+use Rattle.bits.specs.Digit.{digit, number, bit}
+use Rattle.bits.proofs.Bits.{bit-digit}
 use Rattle.bits.proofs.Digits.{number-digit, digit-lt, digit-top, digit-below}
 use Rattle.published.specs.Bytes.{fromBytes, toBytes}
 
@@ -21,6 +24,13 @@ length-toBytes (suc k) x = ap suc (length-toBytes k x)
 -- every element is a byte: so said, it is what a slice of bytes is known to be
 abbrev pub Bytes : List ℕ → Type 0
 Bytes bs = (i : ℕ) → getD bs i 0 < 256
+
+pub no-bytes : Bytes []
+no-bytes i = base
+
+pub more-bytes : (b : ℕ) (bs : List ℕ) → b < 256 → Bytes bs → Bytes (b ∷ bs)
+more-bytes b bs h hs zero = h
+more-bytes b bs h hs (suc i) = hs i
 
 pub toBytes-bytes : (k x : ℕ) → Bytes (toBytes k x)
 unfolding toBytes
@@ -55,3 +65,30 @@ to-from [] h = refl
 to-from (b ∷ bs) h =
     ap₂ _∷_ (digit-top 256 base (length bs) b (fromBytes bs) (h 0) (fromBytes-lt bs (λ i. h (suc i))))
     (toBytes-low (length bs) (length bs) b (fromBytes bs) (le-refl (suc (length bs))) ∙ to-from bs (λ i. h (suc i)))
+
+-- digit m of bytes read as a number is the byte that stands m from the end, and so with its bits
+pub digit-fromBytes : (bs : List ℕ) → Bytes bs → (m : ℕ) → m < length bs → digit 256 (fromBytes bs) m ≡ getD bs (length bs - 1 - m) 0
+unfolding fromBytes
+digit-fromBytes [] h m l = absurd (not-suc-le-zero l)
+digit-fromBytes (b ∷ bs) h m l =
+    ⊎-elim
+    (λ e.
+    rw e
+    (digit-top 256 base (length bs) b (fromBytes bs) (h 0) (fromBytes-lt bs (λ i. h (suc i)))
+    ∙ ap (λ (k : ℕ). getD (b ∷ bs) k 0) (ends e)))
+    (λ k.
+    digit-below 256 base (length bs) b (fromBytes bs) m k ∙ digit-fromBytes bs (λ i. h (suc i)) m k
+    ∙ ap (λ (n : ℕ). getD (b ∷ bs) n 0) (inside k))
+    (eq-or-lt-of-le (le-of-suc-le-suc l))
+  where
+    ends : m ≡ length bs → 0 ≡ suc (length bs) - 1 - length bs
+    ends e = omega arith
+
+    inside : m < length bs → suc (length bs - 1 - m) ≡ suc (length bs) - 1 - m
+    inside k = omega arith
+
+pub bit-fromBytes : (bs : List ℕ) → Bytes bs → (i : ℕ) → i < 8 * length bs → bit (fromBytes bs) i ≡ bit (getD bs (length bs - 1 - i / 8) 0) (i % 8)
+bit-fromBytes bs h i l =
+    ap (bit (fromBytes bs)) (sym (div-add-mod i 8))
+    ∙ sym (bit-digit 8 (fromBytes bs) (i / 8) (i % 8) (mod-lt i (lit< tt)))
+    ∙ ap (λ (x : ℕ). bit x (i % 8)) (digit-fromBytes bs h (i / 8) (omega arith))
