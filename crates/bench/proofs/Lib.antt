@@ -1,0 +1,6 @@
+-- The laws, for the crates above.
+pub mod Truth
+pub mod Records
+pub mod Soundness
+pub mod Seeking
+pub mod Made

@@ -1,0 +1,5 @@
+-- What a reader has to believe of the bench: a lane's record, whose turn it is, and what each call answers.
+pub mod Cipher
+pub mod Record
+pub mod Turning
+pub mod Calls
