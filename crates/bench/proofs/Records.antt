@@ -1,6 +1,6 @@
 -- What a turn of its own does to a sound running record: it stays sound and busy, counts one more and lacks one less.
 use mathlib.Core.Path.{_≡_, refl, sym, ap, _∙_}
-use mathlib.Core.Bool.{true, cond, false≢true}
+use mathlib.Core.Bool.{true, false, cond, false≢true}
 use Prim.Native.Nat.{ℕ, zero, suc, _+_, _-_, _≤_, _<_}
 use native.Mathlib.Omega.{arith}
 use lib.Dec.{eqb, leb, ltb}
@@ -32,6 +32,14 @@ sound-count l s = go (l .phase) (both (leb (l .direction) 1) (soundCount (l .pha
     go (suc zero) e = omega (arith, leb-true (l .count) 7 e)
     go (suc (suc zero)) e = omega (arith, eqb-true (l .count) 8 e)
     go (suc (suc (suc p))) e = absurd (false≢true e)
+
+-- a fourth phase is none
+pub no-phase : (p c : ℕ) → (p ≡ idle → ⊥) → (p ≡ running → ⊥) → (p ≡ finished → ⊥) → soundCount p c ≡ false
+unfolding soundCount
+no-phase zero c n0 n1 n2 = absurd (n0 refl)
+no-phase (suc zero) c n0 n1 n2 = absurd (n1 refl)
+no-phase (suc (suc zero)) c n0 n1 n2 = absurd (n2 refl)
+no-phase (suc (suc (suc p))) c n0 n1 n2 = refl
 
 -- what a record becomes in a turn of its own
 abbrev pub next : Lane → Lane

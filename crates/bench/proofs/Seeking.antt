@@ -5,10 +5,11 @@ use mathlib.Core.List.{List}
 use mathlib.Core.Logic.{_≢_}
 use Prim.Native.Nat.{ℕ, zero, suc, _+_, _-_, _≤_, _<_}
 use native.Mathlib.Nat.{not-suc-le-zero, le-refl}
+use native.Mathlib.Numerals.{sub-one}
 use native.Mathlib.Decide.{decLt, decLe}
 use native.Mathlib.Omega.{arith}
 use lib.Dec.{leb, ltb, lit<}
-use borrow.Author.Tests.{lt-ltb, le-ltb, le-leb, lt-leb, eq-eqb, ltb-true, eqb-true}
+use borrow.Author.Tests.{lt-ltb, le-ltb, le-leb, lt-leb, eq-eqb, ne-eqb, ltb-true, eqb-true}
 use Rattle.bench.specs.declared.Lane.{Lane}
 use Rattle.bench.specs.declared.Bench.{Bench}
 use Rattle.bench.specs.Record.{running}
@@ -22,11 +23,11 @@ some-lane = lit< tt
 
 -- ---- cyclic order
 
-after-in : (i : ℕ) → i + 1 < laneCount → after i ≡ i + 1
+pub after-in : (i : ℕ) → i + 1 < laneCount → after i ≡ i + 1
 unfolding after
 after-in i h = cond-true (ltb (i + 1) laneCount) (i + 1) 0 (lt-ltb (i + 1) laneCount h)
 
-after-end : (i : ℕ) → laneCount ≤ i + 1 → after i ≡ 0
+pub after-end : (i : ℕ) → laneCount ≤ i + 1 → after i ≡ 0
 unfolding after
 after-end i h = cond-false (ltb (i + 1) laneCount) (i + 1) 0 (le-ltb (i + 1) laneCount h)
 
@@ -75,6 +76,22 @@ phase-runs ls n e = eq-eqb (laneAt ls n .phase) running e
 pub runs-phase : (ls : List Lane) (n : ℕ) → runs ls n ≡ true → laneAt ls n .phase ≡ running
 unfolding runs
 runs-phase ls n e = eqb-true (laneAt ls n .phase) running e
+
+-- one step of the search, and its end
+pub seek-here : (k : ℕ) (ls : List Lane) (i : ℕ) → 0 < k → laneAt ls i .phase ≡ running → seek k ls i ≡ i
+unfolding seek
+seek-here zero ls i some e = absurd (not-suc-le-zero some)
+seek-here (suc k) ls i some e = cond-true (runs ls i) i _ (phase-runs ls i e)
+
+pub seek-on : (k : ℕ) (ls : List Lane) (i : ℕ) → 0 < k → laneAt ls i .phase ≢ running → seek k ls i ≡ seek (k - 1) ls (after i)
+unfolding seek runs
+seek-on zero ls i some ne = absurd (not-suc-le-zero some)
+seek-on (suc k) ls i some ne = cond-false (runs ls i) i _ (ne-eqb (laneAt ls i .phase) running ne) ∙ ap (λ (j : ℕ). seek j ls (after i)) (sym (sub-one (suc k)))
+
+pub seek-over : (k : ℕ) (ls : List Lane) (i : ℕ) → k ≤ 0 → seek k ls i ≡ laneCount
+unfolding seek
+seek-over zero ls i h = refl
+seek-over (suc k) ls i h = absurd (not-suc-le-zero h)
 
 -- j is a running lane, no farther from lane i than lane n is
 pub record Found (ls : List Lane) (n i j : ℕ) : Type 0 where

@@ -1,15 +1,16 @@
 -- A sound bench, as facts: four records, one of them last served, each of them sound; and what keeps it so.
-use mathlib.Core.Path.{_≡_, refl, ap, _∙_}
-use mathlib.Core.Bool.{Bool, true, _&&_}
+use mathlib.Core.Path.{_≡_, refl, sym, ap, _∙_}
+use mathlib.Core.Bool.{Bool, true, false, _&&_}
 use mathlib.Core.List.{List, [], _∷_}
 use mathlib.Core.Logic.{_≢_}
-use Prim.Native.Nat.{ℕ, zero, suc, _<_}
+use Prim.Native.Nat.{ℕ, zero, suc, _+_, _≤_, _<_}
 use native.Mathlib.Nat.{not-suc-le-zero, le-of-suc-le-suc}
+use native.Mathlib.Numerals.{add-one}
 use native.Mathlib.Decide.{ℕ-discrete}
 use native.Mathlib.Omega.{arith}
 use lib.Dec.{eqb, ltb}
-use lib.ListN.{length, set, length-set}
-use lib.Seq.{getD-set-same, getD-set-other}
+use lib.ListN.{length, drop, set, length-set, drop-of-length-le}
+use lib.Seq.{drop-cons, getD-set-same, getD-set-other}
 use borrow.Author.Tests.{eq-eqb, eqb-true, lt-ltb, ltb-true}
 use Rattle.bench.specs.declared.Lane.{Lane}
 use Rattle.bench.specs.declared.Bench.{Bench}
@@ -33,6 +34,22 @@ all-of : (ls : List Lane) → ((i : ℕ) → i < length ls → soundLane (laneAt
 unfolding allSound
 all-of [] f = refl
 all-of (l ∷ ls) f = together (soundLane l) (allSound ls) (f 0 (omega arith)) (all-of ls (λ i h. f (suc i) (omega arith)))
+
+-- looking at the records one by one, those before place i being sound
+module _ (ls : List Lane) (i : ℕ) (so-far : allSound (drop i ls) ≡ allSound ls) where
+  from : i < length ls → allSound (drop i ls) ≡ soundLane (laneAt ls i) && allSound (drop (suc i) ls)
+  unfolding allSound
+  from h = ap allSound (drop-cons ls i _ h)
+
+  pub not-all : i < length ls → soundLane (laneAt ls i) ≡ false → false ≡ allSound ls
+  not-all h e = sym (from h ∙ ap (λ (t : Bool). t && allSound (drop (suc i) ls)) e) ∙ so-far
+
+  pub one-more : i < length ls → soundLane (laneAt ls i) ≡ true → allSound (drop (i + 1) ls) ≡ allSound ls
+  one-more h e = ap (λ (j : ℕ). allSound (drop j ls)) (add-one i) ∙ sym (from h ∙ ap (λ (t : Bool). t && allSound (drop (suc i) ls)) e) ∙ so-far
+
+  pub all-seen : length ls ≤ i → true ≡ allSound ls
+  unfolding allSound
+  all-seen h = sym (ap allSound (drop-of-length-le ls h)) ∙ so-far
 
 module _ (b : Bench) where
   pub is-sound : soundBench b ≡ true → Sound b

@@ -1,5 +1,15 @@
 // Four lanes that take turns on one cipher.
 use primitives::State;
+ghost use mathlib.Core.Path.{_≡_};
+ghost use Prim.Native.Nat.{_<_};
+ghost use lib.ListN.{length};
+ghost use Rattle.bench.specs.Record.{soundLane, served, idleWith};
+ghost use Rattle.bench.specs.Turning.{laneCount, after, seek, chosen, turned, turnedBy, servedBy};
+ghost use Rattle.bench.specs.Calls.{freshBench, allSound, soundBench, put, idled, turnOf, closeOf};
+
+// How many lanes a bench has.
+pub const LANES: usize = 4;
+const LAST: usize = LANES - 1;
 
 // A lane: phase 0 idle, 1 running, 2 finished; direction 0 encrypts, 1 decrypts; count is of its own turns.
 #[repr(C)]
@@ -13,7 +23,7 @@ pub struct Lane {
 
 #[repr(C)]
 pub struct Bench {
-    pub lanes: [Lane; 4],
+    pub lanes: [Lane; LANES],
     pub last: u32,
 }
 
@@ -40,4 +50,200 @@ pub struct Taken {
 pub struct Closed {
     pub code: u32,
     pub bench: Bench,
+}
+
+fn sound_lane(l: Lane) -> bool
+    ensures { λ r. ⌜ r ≡ soundLane l ⌝ }
+{
+    let phase = l.phase;
+    let count = l.count;
+    if 1 < l.direction {
+        return false;
+    }
+    if phase == 0 {
+        return count == 0;
+    }
+    if phase == 1 {
+        return count <= 7;
+    }
+    if phase == 2 {
+        return count == 8;
+    }
+    false
+}
+
+fn all_sound(lanes: [Lane; LANES]) -> bool
+    ensures { λ r. ⌜ r ≡ allSound lanes ⌝ }
+{
+    let mut i: usize = 0;
+    while i < LANES {
+        if !sound_lane(lanes[i]) {
+            return false;
+        }
+        i += 1;
+    }
+    true
+}
+
+fn sound(b: Bench) -> bool
+    ensures { λ r. ⌜ r ≡ soundBench b ⌝ }
+{
+    let lanes = b.lanes;
+    if (b.last as usize) < LANES {
+        return all_sound(lanes);
+    }
+    false
+}
+
+// The lane after lane i in cyclic order.
+fn after(i: usize) -> usize
+    ensures { λ r. ⌜ r ≡ after i ⌝ }
+{
+    if i < LAST {
+        return i + 1;
+    }
+    0
+}
+
+// The first running lane in cyclic order from one on, or LANES.
+fn seek(lanes: [Lane; LANES], from: usize) -> usize
+    requires { ⌜ from < laneCount ⌝ }
+    ensures { λ r. ⌜ r ≡ seek laneCount lanes from ⌝ }
+{
+    let mut i = from;
+    let mut left: usize = LANES;
+    while 0 < left {
+        let l = lanes[i];
+        if l.phase == 1 {
+            return i;
+        }
+        i = after(i);
+        left -= 1;
+    }
+    LANES
+}
+
+fn served(l: Lane) -> Lane
+    ensures { λ r. ⌜ r ≡ served l ⌝ }
+{
+    l
+}
+
+// The lane that a turn serves, or LANES where none runs, and the bench after the turn.
+struct One {
+    lane: usize,
+    bench: Bench,
+}
+
+fn turn_once(b: Bench) -> One
+    ensures { λ r. ⌜ (r .lane ≡ chosen b) × (r .bench ≡ turned b) ⌝ }
+{
+    let lanes = b.lanes;
+    let n = seek(lanes, after(b.last as usize));
+    if n < LANES {
+        let mut bench = b;
+        bench.lanes[n] = served(lanes[n]);
+        bench.last = n as u32;
+        return One { lane: n, bench };
+    }
+    One { lane: n, bench: b }
+}
+
+fn turns(b: Bench, asked: u32) -> Turned
+    ensures { λ r. ⌜ (r .code ≡ 0) × (r .made ≡ length (servedBy asked b)) × (r .bench ≡ turnedBy asked b) ⌝ }
+{
+    let mut bench = b;
+    let mut made: u32 = 0;
+    while made < asked {
+        let one = turn_once(bench);
+        if LANES <= one.lane {
+            return Turned { code: 0, made, bench };
+        }
+        let next = one.bench;
+        bench = next;
+        made += 1;
+    }
+    Turned { code: 0, made, bench }
+}
+
+fn put(b: Bench, i: usize, l: Lane) -> Bench
+    requires { ⌜ i < laneCount ⌝ }
+    ensures { λ r. ⌜ r ≡ put b i l ⌝ }
+{
+    let mut bench = b;
+    bench.lanes[i] = l;
+    bench
+}
+
+// An idle record with the round words that it is given.
+fn idle_with(words: [u32; 80]) -> Lane
+    ensures { λ r. ⌜ r ≡ idleWith words ⌝ }
+{
+    let state = State {
+        s0: 0,
+        s1: 0,
+        s2: 0,
+        s3: 0,
+    };
+    Lane {
+        phase: 0,
+        direction: 0,
+        count: 0,
+        words,
+        state,
+    }
+}
+
+fn idled(b: Bench, i: usize) -> Bench
+    requires { ⌜ i < laneCount ⌝ }
+    ensures { λ r. ⌜ r ≡ idled b i ⌝ }
+{
+    let l = b.lanes[i];
+    let words = l.words;
+    put(b, i, idle_with(words))
+}
+
+pub fn fresh() -> Bench
+    ensures { λ r. ⌜ r ≡ freshBench ⌝ }
+{
+    let l = idle_with([0u32; 80]);
+    let lanes = [l; LANES];
+    Bench {
+        lanes,
+        last: LAST as u32,
+    }
+}
+
+pub fn turn(b: Bench, asked: u32) -> Turned
+    ensures { λ r. ⌜ r ≡ turnOf b asked ⌝ }
+{
+    if !sound(b) {
+        return Turned {
+            code: 10,
+            made: 0,
+            bench: b,
+        };
+    }
+    if 1024 < asked {
+        return Turned {
+            code: 8,
+            made: 0,
+            bench: b,
+        };
+    }
+    turns(b, asked)
+}
+
+pub fn close(b: Bench, lane: u32) -> Closed
+    ensures { λ r. ⌜ r ≡ closeOf b lane ⌝ }
+{
+    let i = lane as usize;
+    if !sound(b) {
+        return Closed { code: 10, bench: b };
+    }
+    if LANES <= i {
+        return Closed { code: 5, bench: b };
+    }
+    let bench = idled(b, i);
+    Closed { code: 0, bench }
 }
