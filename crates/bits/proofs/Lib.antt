@@ -3,3 +3,4 @@ pub mod Digits
 pub mod Bits
 pub mod Computed
 pub mod Reflect
+pub mod Pointwise

@@ -71,7 +71,7 @@ word-blockOf s h j l =
     high : (i j : ℕ) → j < 4 → (4 * i + j) / 4 ≡ i
     high i j h = omega arith
 
-same-words : (s t : State) → s .s0 ≡ t .s0 → s .s1 ≡ t .s1 → s .s2 ≡ t .s2 → s .s3 ≡ t .s3 → s ≡ t
+pub same-words : (s t : State) → s .s0 ≡ t .s0 → s .s1 ≡ t .s1 → s .s2 ≡ t .s2 → s .s3 ≡ t .s3 → s ≡ t
 same-words s t p0 p1 p2 p3 = λ i. record { s0 = p0 i; s1 = p1 i; s2 = p2 i; s3 = p3 i }
 
 pub stateOf-blockOf : (s : State) → Words s → stateOf (blockOf s) ≡ s

@@ -1,0 +1,110 @@
+-- Five rounds, one after the other: what the proofs of the two quintuple rounds chain.
+use mathlib.Core.Path.{_≡_, refl, sym, ap, ap₂, _∙_}
+use mathlib.Core.Bool.{Bool, cond, true, false, _&&_}
+use mathlib.Core.List.{List, [], _∷_}
+use Prim.Native.Nat.{ℕ, zero, suc, _+_, _%_, _^_, _≤_, _<_, suc-le-suc}
+use native.Mathlib.Nat.{le-of-suc-le-suc, not-suc-le-zero}
+use native.Mathlib.Omega.{arith}
+use borrow.Author.Tests.{lt-ltb, le-leb, lt-leb, eq-eqb, ne-eqb}
+use lib.Dec.{ltb, leb, eqb}
+use lib.ListN.{length, getD, take}
+use Rattle.published.specs.Rounds.{constant, round, rounds, unround, unrounds}
+use Rattle.primitives.specs.Packed.{blockOf, stateOf}
+use Rattle.primitives.specs.Arranged.{stands, arranged, constantWord, pairsFrom}
+use Rattle.primitives.specs.declared.State.{State}
+use Rattle.primitives.proofs.Blocks.{Words, stateOf-blockOf}
+use Rattle.primitives.proofs.Arrangements.{stands-arranged}
+use Rattle.quintuple.specs.Quintuple.{good, quintupled, unquintupled}
+use Rattle.quintuple.specs.Inner.{exchangedOf, subround, unsubround}
+use Rattle.quintuple.proofs.Fixslice.{blockIn, constant-lt, subround-is-round, unsubround-is-unround}
+
+and-false : (b : Bool) → (b && false) ≡ false
+and-false false = refl
+and-false true = refl
+
+-- the first n of a list, one by one
+listed : ℕ → (ℕ → ℕ) → List ℕ
+listed zero f = []
+listed (suc n) f = f 0 ∷ listed n (λ i. f (suc i))
+
+take-listed : (n : ℕ) (l : List ℕ) → n ≤ length l → take n l ≡ listed n (λ i. getD l i 0)
+unfolding listed
+take-listed zero l h = refl
+take-listed (suc n) [] h = absurd (not-suc-le-zero h)
+take-listed (suc n) (x ∷ l) h = ap (λ (t : List ℕ). x ∷ t) (take-listed n l (le-of-suc-le-suc h))
+
+abbrev pub ten : List ℕ → List ℕ
+ten ws =
+    getD ws 0 0 ∷ getD ws 1 0 ∷ getD ws 2 0 ∷ getD ws 3 0 ∷ getD ws 4 0 ∷ getD ws 5 0 ∷ getD ws 6 0 ∷ getD ws 7 0 ∷ getD ws 8 0 ∷ getD ws 9 0 ∷ []
+
+pub first-ten : (ws : List ℕ) → 10 ≤ length ws → take 10 ws ≡ ten ws
+unfolding listed
+first-ten ws h = take-listed 10 ws h
+
+-- a word of the table stands for its round's constant
+pub carried : (k r r′ c : ℕ) → k < 5 → r < 40 → r % 5 ≡ k → r ≡ r′ → c ≡ cond (ltb r 40) (constantWord (r % 5) r) 0 → stands (suc k) c ≡ 2 ^ 31 + constant (suc r′)
+unfolding constantWord
+carried k r r′ c hk hr at same e =
+    ap (stands (suc k))
+    (e ∙ ap (λ (b : Bool). cond b (constantWord (r % 5) r) 0) (lt-ltb r 40 hr) ∙ ap₂ (λ (j m : ℕ). arranged (suc j) (2 ^ 31 + constant (suc m))) at same)
+    ∙ stands-arranged (suc k) (2 ^ 31 + constant (suc r′)) (suc-le-suc hk) (omega (arith, constant-lt (suc r′)))
+
+-- one more round
+pub go-on : (k : ℕ) (x a y : State) (v u c r b : ℕ) → k < 5 → stands (suc k) c ≡ 2 ^ 31 + constant r → blockIn k x ≡ b → a ≡ subround k x v u c → y ≡ exchangedOf a
+    → blockIn (suc k) y ≡ round 128 1 (record { u = stands (suc k) u; v = stands (suc k) v }) (constant r) b
+go-on k x a y v u c r b hk carries before made swapped =
+    ap (blockIn (suc k)) (swapped ∙ ap exchangedOf made) ∙ subround-is-round k hk x v u c (constant r) (constant-lt r) carries
+    ∙ ap (round 128 1 _ (constant r)) before
+
+-- one round less, and what it leaves are words again
+pub go-back : (k : ℕ) (x y a : State) (v u c r b : ℕ) → k < 5 → Words x → v < 2 ^ 32 → u < 2 ^ 32 → c < 2 ^ 32 → stands (suc k) c ≡ 2 ^ 31 + constant r
+    → blockIn (suc k) x ≡ b → y ≡ exchangedOf x → a ≡ unsubround k y v u c
+    → blockIn k a ≡ unround 128 1 (record { u = stands (suc k) u; v = stands (suc k) v }) (constant r) b
+go-back k x y a v u c r b hk hx hv hu hc carries before swapped made =
+    ap (blockIn k) (made ∙ ap (λ (z : State). unsubround k z v u c) swapped)
+    ∙ unsubround-is-unround k hk (exchangedOf x) v u c (hx .3, hx .1, hx .2, hx .0) hv hu hc (constant r) (constant-lt r) carries
+    ∙ ap (unround 128 1 _ (constant r)) before
+
+-- ---- the tests of the two calls, and what the calls give by them
+
+pub all-good : (ws : List ℕ) (i : ℕ) → 10 ≤ length ws → i ≤ 35 → i % 5 ≡ 0 → good ws i ≡ true
+all-good ws i hw hi h5 = ap₂ _&&_ (le-leb 10 (length ws) hw) (ap₂ _&&_ (le-leb i 35 hi) (eq-eqb (i % 5) 0 h5))
+
+pub too-few : (ws : List ℕ) (i : ℕ) → length ws < 10 → good ws i ≡ false
+too-few ws i h = ap (λ (b : Bool). b && (leb i 35 && eqb (i % 5) 0)) (lt-leb 10 (length ws) h)
+
+pub too-far : (ws : List ℕ) (i : ℕ) → 35 < i → good ws i ≡ false
+too-far ws i h = ap (λ (b : Bool). leb 10 (length ws) && (b && eqb (i % 5) 0)) (lt-leb i 35 h) ∙ and-false (leb 10 (length ws))
+
+pub no-start : (ws : List ℕ) (i : ℕ) → (i % 5 ≡ 0 → ⊥) → good ws i ≡ false
+no-start ws i h =
+    ap (λ (b : Bool). leb 10 (length ws) && (leb i 35 && b)) (ne-eqb (i % 5) 0 h) ∙ ap (λ (b : Bool). leb 10 (length ws) && b) (and-false (leb i 35))
+    ∙ and-false (leb 10 (length ws))
+
+module _ (s : State) (ws : List ℕ) (i : ℕ) where
+  pub stays : good ws i ≡ false → s ≡ quintupled s ws i
+  unfolding quintupled
+  stays e = sym (ap (λ (b : Bool). cond b (stateOf (rounds 128 1 (pairsFrom 0 (take 10 ws)) i (blockOf s))) s) e)
+
+  pub unstays : good ws i ≡ false → s ≡ unquintupled s ws i
+  unfolding unquintupled
+  unstays e = sym (ap (λ (b : Bool). cond b (stateOf (unrounds 128 1 (pairsFrom 0 (take 10 ws)) i (blockOf s))) s) e)
+
+  module _ (few : 10 ≤ length ws) (near : i ≤ 35) (start : i % 5 ≡ 0) (r : State) (hr : Words r) where
+    pub done : blockOf r ≡ rounds 128 1 (pairsFrom 0 (ten ws)) i (blockOf s) → r ≡ quintupled s ws i
+    unfolding quintupled
+    done e =
+        sym
+        (ap (λ (b : Bool). cond b (stateOf (rounds 128 1 (pairsFrom 0 (take 10 ws)) i (blockOf s))) s) (all-good ws i few near start)
+        ∙ ap (λ (l : List ℕ). stateOf (rounds 128 1 (pairsFrom 0 l) i (blockOf s))) (first-ten ws few)
+        ∙ ap stateOf (sym e)
+        ∙ stateOf-blockOf r hr)
+
+    pub undone : blockOf r ≡ unrounds 128 1 (pairsFrom 0 (ten ws)) i (blockOf s) → r ≡ unquintupled s ws i
+    unfolding unquintupled
+    undone e =
+        sym
+        (ap (λ (b : Bool). cond b (stateOf (unrounds 128 1 (pairsFrom 0 (take 10 ws)) i (blockOf s))) s) (all-good ws i few near start)
+        ∙ ap (λ (l : List ℕ). stateOf (unrounds 128 1 (pairsFrom 0 l) i (blockOf s))) (first-ten ws few)
+        ∙ ap stateOf (sym e)
+        ∙ stateOf-blockOf r hr)

@@ -1,0 +1,5 @@
+-- Laws of the boxes and rounds.
+pub mod Columns
+pub mod Shapes
+pub mod Fixslice
+pub mod Five

@@ -1,0 +1,42 @@
+-- What the private functions give; no public contract cites this. The moves are said by what they mean, not by how the code makes them.
+use Prim.Native.Nat.{ℕ, suc, _+_, _-_, _*_, _/_}
+use lib.Bits.{bitXor}
+use Rattle.published.specs.Rounds.{P, entry, unentry}
+use Rattle.published.proofs.Steps.{back}
+use Rattle.primitives.specs.Words.{permuted}
+use Rattle.primitives.specs.Arranged.{nibbleAt}
+use Rattle.primitives.specs.declared.State.{State}
+use Rattle.quintuple.specs.Boxes.{substituted, boxed}
+
+abbrev pub exchangedOf : State → State
+exchangedOf s = record { s0 = s .s3; s1 = s .s1; s2 = s .s2; s3 = s .s0 }
+
+-- k rounds in, where bit j of a nibble has to come from, as places of the words before and after the round; and where it goes back to
+unfoldable pub move : ℕ → ℕ → ℕ → ℕ
+move k j i = nibbleAt (5 - k) (back 128 (4 * nibbleAt (suc k) i + j) / 4)
+
+unfoldable pub unmove : ℕ → ℕ → ℕ → ℕ
+unmove k j i = nibbleAt (5 - suc k) (P 128 (4 * nibbleAt k i + j) / 4)
+
+-- one round on words that stand in arrangement k, by two key words and the constant's word; s0 and s3 are left exchanged
+unfoldable pub subround : ℕ → State → ℕ → ℕ → ℕ → State
+subround k s v u c =
+    record {
+      s0 = bitXor (substituted entry s 3) c;
+      s1 = bitXor (permuted (move k 1) (substituted entry s 1)) v;
+      s2 = bitXor (permuted (move k 2) (substituted entry s 2)) u;
+      s3 = permuted (move k 0) (substituted entry s 0);
+    }
+
+-- and undone, from exchanged words
+abbrev pub unmoved : ℕ → State → ℕ → ℕ → ℕ → State
+unmoved k s v u c =
+    record {
+      s0 = permuted (unmove k 0) (s .s3);
+      s1 = permuted (unmove k 1) (bitXor (s .s1) v);
+      s2 = permuted (unmove k 2) (bitXor (s .s2) u);
+      s3 = bitXor (s .s0) c;
+    }
+
+unfoldable pub unsubround : ℕ → State → ℕ → ℕ → ℕ → State
+unsubround k s v u c = exchangedOf (boxed unentry (unmoved k s v u c))

@@ -1,0 +1,22 @@
+-- A quintuple round: five published rounds on the block that four words stand for, by the pairs that ten words stand for.
+use mathlib.Core.Bool.{Bool, cond, _&&_}
+use mathlib.Core.List.{List}
+use Prim.Native.Nat.{ℕ, _%_}
+use lib.Dec.{leb, eqb}
+use lib.ListN.{length, take}
+use Rattle.published.specs.Rounds.{rounds, unrounds}
+use Rattle.primitives.specs.Packed.{blockOf, stateOf}
+use Rattle.primitives.specs.Arranged.{pairsFrom}
+use Rattle.primitives.specs.declared.State.{State}
+
+-- ten words at least, and an offset that is one of 0, 5, .. 35
+abbrev pub good : List ℕ → ℕ → Bool
+good ws i = leb 10 (length ws) && (leb i 35 && eqb (i % 5) 0)
+
+-- rounds i + 1 to i + 5 done; the state as it was where there are too few words or no such offset
+unfoldable pub quintupled : State → List ℕ → ℕ → State
+quintupled s ws i = cond (good ws i) (stateOf (rounds 128 1 (pairsFrom 0 (take 10 ws)) i (blockOf s))) s
+
+-- rounds i + 5 to i + 1 undone
+unfoldable pub unquintupled : State → List ℕ → ℕ → State
+unquintupled s ws i = cond (good ws i) (stateOf (unrounds 128 1 (pairsFrom 0 (take 10 ws)) i (blockOf s))) s

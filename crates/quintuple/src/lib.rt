@@ -1,0 +1,289 @@
+// The boxes and rounds of primitives.rs: the S-box and its inverse, five rounds and their undoing.
+ghost use mathlib.Core.Path.{_≡_};
+ghost use Rattle.published.specs.Rounds.{entry, unentry};
+ghost use Rattle.quintuple.specs.Boxes.{boxed};
+ghost use Rattle.quintuple.specs.Quintuple.{quintupled, unquintupled};
+ghost use Rattle.quintuple.specs.Inner.{exchangedOf, subround, unsubround};
+use primitives::State;
+use primitives::byte_ror_2;
+use primitives::byte_ror_4;
+use primitives::byte_ror_6;
+use primitives::half_ror_4;
+use primitives::half_ror_8;
+use primitives::half_ror_12;
+use primitives::nibble_ror_1;
+use primitives::nibble_ror_2;
+use primitives::nibble_ror_3;
+use primitives::ror;
+use primitives::swapmovesingle;
+
+pub mod consts;
+
+use consts::round_constant;
+
+// The table on every column. It leaves s0 and s3 exchanged.
+pub fn sbox(s: State) -> State
+    ensures { λ r. ⌜ r ≡ boxed entry s ⌝ }
+{
+    let mut s0 = s.s0;
+    let mut s1 = s.s1;
+    let mut s2 = s.s2;
+    let mut s3 = s.s3;
+    s1 ^= s0 & s2;
+    s0 ^= s1 & s3;
+    s2 ^= s0 | s1;
+    s3 ^= s2;
+    s1 ^= s3;
+    s3 ^= 0xffffffff;
+    s2 ^= s0 & s1;
+    State { s0, s1, s2, s3 }
+}
+
+// The inverse table on every column. It too leaves s0 and s3 exchanged.
+pub fn inv_sbox(s: State) -> State
+    ensures { λ r. ⌜ r ≡ boxed unentry s ⌝ }
+{
+    let mut s0 = s.s0;
+    let mut s1 = s.s1;
+    let mut s2 = s.s2;
+    let mut s3 = s.s3;
+    s2 ^= s3 & s1;
+    s0 ^= 0xffffffff;
+    s1 ^= s0;
+    s0 ^= s2;
+    s2 ^= s3 | s1;
+    s3 ^= s1 & s0;
+    s1 ^= s3 & s2;
+    State { s0, s1, s2, s3 }
+}
+
+fn exchanged(s: State) -> State
+    ensures { λ r. ⌜ r ≡ exchangedOf s ⌝ }
+{
+    State {
+        s0: s.s3,
+        s1: s.s1,
+        s2: s.s2,
+        s3: s.s0,
+    }
+}
+
+// The five rounds of a quintuple, each by its two key words and its constant. Like the box, each leaves s0 and s3 exchanged.
+fn round_0(s: State, v: u32, u: u32, c: u32) -> State
+    ensures { λ r. ⌜ r ≡ subround 0 s v u c ⌝ }
+{
+    let t = sbox(s);
+    let s3 = nibble_ror_1(t.s3);
+    let s1 = nibble_ror_2(t.s1);
+    let s2 = nibble_ror_3(t.s2);
+    State {
+        s0: t.s0 ^ c,
+        s1: s1 ^ v,
+        s2: s2 ^ u,
+        s3,
+    }
+}
+
+fn round_1(s: State, v: u32, u: u32, c: u32) -> State
+    ensures { λ r. ⌜ r ≡ subround 1 s v u c ⌝ }
+{
+    let t = sbox(s);
+    let s3 = half_ror_4(t.s3);
+    let s1 = half_ror_8(t.s1);
+    let s2 = half_ror_12(t.s2);
+    State {
+        s0: t.s0 ^ c,
+        s1: s1 ^ v,
+        s2: s2 ^ u,
+        s3,
+    }
+}
+
+fn round_2(s: State, v: u32, u: u32, c: u32) -> State
+    ensures { λ r. ⌜ r ≡ subround 2 s v u c ⌝ }
+{
+    let t = sbox(s);
+    let t3 = ror(t.s3, 16);
+    let t2 = ror(t.s2, 16);
+    let s1 = swapmovesingle(t.s1, 0x55555555, 1);
+    let s2 = swapmovesingle(t2, 0x00005555, 1);
+    let s3 = swapmovesingle(t3, 0x55550000, 1);
+    State {
+        s0: t.s0 ^ c,
+        s1: s1 ^ v,
+        s2: s2 ^ u,
+        s3,
+    }
+}
+
+fn round_3(s: State, v: u32, u: u32, c: u32) -> State
+    ensures { λ r. ⌜ r ≡ subround 3 s v u c ⌝ }
+{
+    let t = sbox(s);
+    let s3 = byte_ror_6(t.s3);
+    let s1 = byte_ror_4(t.s1);
+    let s2 = byte_ror_2(t.s2);
+    State {
+        s0: t.s0 ^ c,
+        s1: s1 ^ v,
+        s2: s2 ^ u,
+        s3,
+    }
+}
+
+fn round_4(s: State, v: u32, u: u32, c: u32) -> State
+    ensures { λ r. ⌜ r ≡ subround 4 s v u c ⌝ }
+{
+    let t = sbox(s);
+    let s3 = ror(t.s3, 24);
+    let s1 = ror(t.s1, 16);
+    let s2 = ror(t.s2, 8);
+    State {
+        s0: t.s0 ^ c,
+        s1: s1 ^ v,
+        s2: s2 ^ u,
+        s3,
+    }
+}
+
+// The same rounds undone, from exchanged words. Each gives the words back in their places.
+fn inv_round_4(s: State, v: u32, u: u32, c: u32) -> State
+    ensures { λ r. ⌜ r ≡ unsubround 4 s v u c ⌝ }
+{
+    let s0 = ror(s.s3, 8);
+    let s1 = ror(s.s1 ^ v, 16);
+    let s2 = ror(s.s2 ^ u, 24);
+    let s3 = s.s0 ^ c;
+    exchanged(inv_sbox(State { s0, s1, s2, s3 }))
+}
+
+fn inv_round_3(s: State, v: u32, u: u32, c: u32) -> State
+    ensures { λ r. ⌜ r ≡ unsubround 3 s v u c ⌝ }
+{
+    let s0 = byte_ror_2(s.s3);
+    let s1 = byte_ror_4(s.s1 ^ v);
+    let s2 = byte_ror_6(s.s2 ^ u);
+    let s3 = s.s0 ^ c;
+    exchanged(inv_sbox(State { s0, s1, s2, s3 }))
+}
+
+fn inv_round_2(s: State, v: u32, u: u32, c: u32) -> State
+    ensures { λ r. ⌜ r ≡ unsubround 2 s v u c ⌝ }
+{
+    let t0 = swapmovesingle(s.s3, 0x55550000, 1);
+    let s1 = swapmovesingle(s.s1 ^ v, 0x55555555, 1);
+    let t2 = swapmovesingle(s.s2 ^ u, 0x00005555, 1);
+    let s0 = ror(t0, 16);
+    let s2 = ror(t2, 16);
+    let s3 = s.s0 ^ c;
+    exchanged(inv_sbox(State { s0, s1, s2, s3 }))
+}
+
+fn inv_round_1(s: State, v: u32, u: u32, c: u32) -> State
+    ensures { λ r. ⌜ r ≡ unsubround 1 s v u c ⌝ }
+{
+    let s0 = half_ror_12(s.s3);
+    let s1 = half_ror_8(s.s1 ^ v);
+    let s2 = half_ror_4(s.s2 ^ u);
+    let s3 = s.s0 ^ c;
+    exchanged(inv_sbox(State { s0, s1, s2, s3 }))
+}
+
+fn inv_round_0(s: State, v: u32, u: u32, c: u32) -> State
+    ensures { λ r. ⌜ r ≡ unsubround 0 s v u c ⌝ }
+{
+    let s0 = nibble_ror_3(s.s3);
+    let s1 = nibble_ror_2(s.s1 ^ v);
+    let s2 = nibble_ror_1(s.s2 ^ u);
+    let s3 = s.s0 ^ c;
+    exchanged(inv_sbox(State { s0, s1, s2, s3 }))
+}
+
+// Rounds i + 1 to i + 5, by the first ten of the words. With fewer words, or where no quintuple starts at i, the state stays.
+pub fn quintuple_round(state: State, rkey: &[u32], i: usize) -> State
+    ensures { λ r. ⌜ r ≡ quintupled state (now (rkey .entry)) i ⌝ }
+{
+    if rkey.len() < 10 {
+        return state;
+    }
+    if 35 < i {
+        return state;
+    }
+    if i % 5 != 0 {
+        return state;
+    }
+    let k0 = rkey[0];
+    let k1 = rkey[1];
+    let k2 = rkey[2];
+    let k3 = rkey[3];
+    let k4 = rkey[4];
+    let k5 = rkey[5];
+    let k6 = rkey[6];
+    let k7 = rkey[7];
+    let k8 = rkey[8];
+    let k9 = rkey[9];
+    let c0 = round_constant(i);
+    let c1 = round_constant(i + 1);
+    let c2 = round_constant(i + 2);
+    let c3 = round_constant(i + 3);
+    let c4 = round_constant(i + 4);
+    let a = round_0(state, k0, k1, c0);
+    let b = round_1(exchanged(a), k2, k3, c1);
+    let c = round_2(exchanged(b), k4, k5, c2);
+    let d = round_3(exchanged(c), k6, k7, c3);
+    let e = round_4(exchanged(d), k8, k9, c4);
+    // Five exchanges are one: s0 and s3 are put back.
+    State {
+        s0: e.s3,
+        s1: e.s1,
+        s2: e.s2,
+        s3: e.s0,
+    }
+}
+
+// The same rounds undone, the last first. The exchange of s0 and s3 is undone first of all.
+pub fn inv_quintuple_round(state: State, rkey: &[u32], i: usize) -> State
+    ensures { λ r. ⌜ r ≡ unquintupled state (now (rkey .entry)) i ⌝ }
+{
+    if rkey.len() < 10 {
+        return state;
+    }
+    if 35 < i {
+        return state;
+    }
+    if i % 5 != 0 {
+        return state;
+    }
+    let k0 = rkey[0];
+    let k1 = rkey[1];
+    let k2 = rkey[2];
+    let k3 = rkey[3];
+    let k4 = rkey[4];
+    let k5 = rkey[5];
+    let k6 = rkey[6];
+    let k7 = rkey[7];
+    let k8 = rkey[8];
+    let k9 = rkey[9];
+    let c0 = round_constant(i);
+    let c1 = round_constant(i + 1);
+    let c2 = round_constant(i + 2);
+    let c3 = round_constant(i + 3);
+    let c4 = round_constant(i + 4);
+    let x = State {
+        s0: state.s3,
+        s1: state.s1,
+        s2: state.s2,
+        s3: state.s0,
+    };
+    let a = inv_round_4(x, k8, k9, c4);
+    let b = inv_round_3(exchanged(a), k6, k7, c3);
+    let c = inv_round_2(exchanged(b), k4, k5, c2);
+    let d = inv_round_1(exchanged(c), k2, k3, c1);
+    let e = inv_round_0(exchanged(d), k0, k1, c0);
+    State {
+        s0: e.s0,
+        s1: e.s1,
+        s2: e.s2,
+        s3: e.s3,
+    }
+}
