@@ -4,3 +4,4 @@ pub mod Records
 pub mod Soundness
 pub mod Seeking
 pub mod Made
+pub mod Rest

@@ -1,15 +1,16 @@
 -- One turn and many: what a turn leaves sound, and that turns made are the smaller of those asked for and those lacking.
-use mathlib.Core.Path.{_≡_, refl, ap, _∙_}
+use mathlib.Core.Path.{_≡_, refl, sym, ap, _∙_}
 use mathlib.Core.Bool.{Bool, true, false, cond}
 use mathlib.Core.List.{List, [], _∷_}
-use Prim.Native.Nat.{ℕ, zero, suc, _+_, _<_, min}
+use Prim.Native.Nat.{ℕ, zero, suc, _+_, _≤_, _<_, min}
 use native.Mathlib.Nat.{not-suc-le-zero, le-of-suc-le-suc}
 use native.Mathlib.Omega.{arith}
 use lib.ListN.{length, set}
 use Rattle.bench.specs.declared.Lane.{Lane}
 use Rattle.bench.specs.declared.Bench.{Bench}
 use Rattle.bench.specs.Record.{running, soundLane, served}
-use Rattle.bench.specs.Turning.{laneAt, runs, chosen, anyRuns, turned, turnedBy, servedBy, lacks, total}
+use borrow.Author.Tests.{lt-ltb, le-ltb}
+use Rattle.bench.specs.Turning.{laneCount, laneAt, runs, chosen, anyRuns, turned, turnedBy, servedBy, lacks, total}
 use Rattle.bench.proofs.Truth.{cond-true, cond-false}
 use Rattle.bench.proofs.Records.{served-count, served-lacks, served-sound}
 use Rattle.bench.proofs.Soundness.{Sound, sound-set}
@@ -34,6 +35,14 @@ module _ (b : Bench) where
   pub turned-none : anyRuns b ≡ false → turned b ≡ b
   unfolding turned
   turned-none e = cond-false (anyRuns b) _ b e
+
+  pub chosen-any : (n : ℕ) → n ≡ chosen b → n < laneCount → anyRuns b ≡ true
+  unfolding anyRuns
+  chosen-any n e h = lt-ltb (chosen b) laneCount (rw e at h)
+
+  pub chosen-none : (n : ℕ) → n ≡ chosen b → laneCount ≤ n → anyRuns b ≡ false
+  unfolding anyRuns
+  chosen-none n e h = le-ltb (chosen b) laneCount (rw e at h)
 
   module _ (any : anyRuns b ≡ true) where
     -- what a turn leaves where a lane runs
@@ -63,6 +72,11 @@ module _ (b : Bench) where
       pub counts-more : total (λ k. k .count) (turned b .lanes) ≡ suc (total (λ k. k .count) (b .lanes))
       counts-more = omega (arith, turned-total (λ k. k .count), served-count (laneAt (b .lanes) (chosen b)) chosen-sound chosen-phase)
 
+-- what a turn leaves that serves lane n
+pub turned-at : (b : Bench) (n : ℕ) (l : Lane) → n ≡ chosen b → n < laneCount → l ≡ served (laneAt (b .lanes) n)
+    → record { lanes = set (b .lanes) n l; last = n } ≡ turned b
+turned-at b n l e h f = rw (f, e) (sym (turned-is b (chosen-any b n e h)))
+
 -- ---- n turns
 
 pub sound-turned : (b : Bench) → Sound b → Sound (turned b)
@@ -77,6 +91,21 @@ unfolding turnedBy
 sound-turns zero b s = s
 sound-turns (suc n) b s = sound-turns n (turned b) (sound-turned b s)
 
+-- where no lane runs, turns make nothing
+pub none-turned : (n : ℕ) (b : Bench) → anyRuns b ≡ false → turnedBy n b ≡ b
+unfolding turnedBy
+none-turned zero b e = refl
+none-turned (suc n) b e = ap (turnedBy n) (turned-none b e) ∙ none-turned n b e
+
+pub none-served : (n : ℕ) (b : Bench) → anyRuns b ≡ false → servedBy n b ≡ []
+unfolding servedBy
+none-served zero b e = refl
+none-served (suc n) b e = cond-false (anyRuns b) _ [] e
+
+pub one-served : (n : ℕ) (b : Bench) → anyRuns b ≡ true → servedBy (suc n) b ≡ chosen b ∷ servedBy n (turned b)
+unfolding servedBy
+one-served n b e = cond-true (anyRuns b) _ [] e
+
 -- what is proved of n turns turn by turn: of n, the bench before, the lanes served and the bench after
 pub by-turns : (P : ℕ → Bench → List ℕ → Bench → Type 0) → ((b : Bench) → P 0 b [] b)
     → ((n : ℕ) (b : Bench) → Sound b → anyRuns b ≡ false → P (suc n) b [] b)
@@ -86,14 +115,10 @@ unfolding servedBy turnedBy
 by-turns P nil none more zero b s = nil b
 by-turns P nil none more (suc n) b s = go (anyRuns b) refl (by-turns P nil none more n (turned b) (sound-turned b s))
   where
-    idle-turns : (n : ℕ) → anyRuns b ≡ false → turnedBy n b ≡ b
-    idle-turns zero e = refl
-    idle-turns (suc n) e = ap (turnedBy n) (turned-none b e) ∙ idle-turns n e
-
     go : (t : Bool) → anyRuns b ≡ t → P n (turned b) (servedBy n (turned b)) (turnedBy n (turned b))
         → P (suc n) b (cond t (chosen b ∷ servedBy n (turned b)) []) (turnedBy n (turned b))
     go true e later = more n b (servedBy n (turned b)) (turnedBy n (turned b)) s e later
-    go false e later = rw (turned-none b e, idle-turns n e) (none n b s e)
+    go false e later = rw (turned-none b e, none-turned n b e) (none n b s e)
 
 -- where no lane runs, none is lacking
 pub none-lacking : (b : Bench) → Sound b → anyRuns b ≡ false → total lacks (b .lanes) ≡ 0

@@ -5,6 +5,7 @@ use Prim.Native.Nat.{ℕ, zero, suc, _+_, _-_, _≤_, _<_}
 use native.Mathlib.Omega.{arith}
 use lib.Dec.{eqb, leb, ltb}
 use borrow.Author.Tests.{lt-ltb, le-leb, eqb-true, eqb-false, leb-true}
+use Rattle.primitives.specs.declared.State.{State}
 use Rattle.bench.specs.declared.Lane.{Lane}
 use Rattle.bench.specs.Record.{running, finished, idle, soundCount, soundLane, advanced, served}
 use Rattle.bench.specs.Turning.{lacks}
@@ -51,6 +52,12 @@ next l =
       words = l .words;
       state = advanced l;
     }
+
+-- the same by its parts: the last turn, and one before it
+pub served-by : (l : Lane) (phase : ℕ) (state : State) → l .count < 8 → phase ≡ cond (eqb (l .count + 1) 8) finished running → state ≡ advanced l
+    → record { phase = phase; direction = l .direction; count = l .count + 1; words = l .words; state = state } ≡ served l
+unfolding served
+served-by l phase state h p s = rw (p, s) (sym (cond-true (ltb (l .count) 8) (next l) l (lt-ltb (l .count) 8 h)))
 
 module _ (l : Lane) (sound : soundLane l ≡ true) (runs : l .phase ≡ running) where
   pub served-next : served l ≡ next l

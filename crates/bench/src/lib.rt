@@ -1,9 +1,11 @@
 // Four lanes that take turns on one cipher.
 use primitives::State;
+use quintuple::inv_quintuple_round;
+use quintuple::quintuple_round;
 ghost use mathlib.Core.Path.{_≡_};
 ghost use Prim.Native.Nat.{_<_};
 ghost use lib.ListN.{length};
-ghost use Rattle.bench.specs.Record.{soundLane, served, idleWith};
+ghost use Rattle.bench.specs.Record.{soundLane, advanced, served, idleWith};
 ghost use Rattle.bench.specs.Turning.{laneCount, after, seek, chosen, turned, turnedBy, servedBy};
 ghost use Rattle.bench.specs.Calls.{freshBench, allSound, soundBench, put, idled, turnOf, closeOf};
 
@@ -123,10 +125,49 @@ fn seek(lanes: [Lane; LANES], from: usize) -> usize
     LANES
 }
 
+// One quintuple round more, over the words that start at twice the offset.
+fn advanced(l: Lane) -> State
+    requires { ⌜ l .count < 8 ⌝ }
+    ensures { λ r. ⌜ r ≡ advanced l ⌝ }
+{
+    let words = l.words;
+    let state = l.state;
+    let done = 5 * (l.count as usize);
+    if l.direction == 0 {
+        let from = 2 * done;
+        return quintuple_round(state, &words[from..], done);
+    }
+    let left = 35 - done;
+    let from = 2 * left;
+    inv_quintuple_round(state, &words[from..], left)
+}
+
+// A turn of its own.
 fn served(l: Lane) -> Lane
     ensures { λ r. ⌜ r ≡ served l ⌝ }
 {
-    l
+    let count = l.count;
+    if 8 <= count {
+        return l;
+    }
+    let state = advanced(l);
+    let words = l.words;
+    if count == 7 {
+        return Lane {
+            phase: 2,
+            direction: l.direction,
+            count: count + 1,
+            words,
+            state,
+        };
+    }
+    Lane {
+        phase: 1,
+        direction: l.direction,
+        count: count + 1,
+        words,
+        state,
+    }
 }
 
 // The lane that a turn serves, or LANES where none runs, and the bench after the turn.
@@ -149,21 +190,27 @@ fn turn_once(b: Bench) -> One
     One { lane: n, bench: b }
 }
 
-fn turns(b: Bench, asked: u32) -> Turned
-    ensures { λ r. ⌜ (r .code ≡ 0) × (r .made ≡ length (servedBy asked b)) × (r .bench ≡ turnedBy asked b) ⌝ }
+// The turns made, and the bench after them.
+struct Many {
+    made: u32,
+    bench: Bench,
+}
+
+fn turns(b: Bench, asked: u32) -> Many
+    ensures { λ r. ⌜ (r .made ≡ length (servedBy asked b)) × (r .bench ≡ turnedBy asked b) ⌝ }
 {
     let mut bench = b;
     let mut made: u32 = 0;
     while made < asked {
         let one = turn_once(bench);
         if LANES <= one.lane {
-            return Turned { code: 0, made, bench };
+            return Many { made, bench };
         }
         let next = one.bench;
         bench = next;
         made += 1;
     }
-    Turned { code: 0, made, bench }
+    Many { made, bench }
 }
 
 fn put(b: Bench, i: usize, l: Lane) -> Bench
@@ -231,7 +278,13 @@ pub fn turn(b: Bench, asked: u32) -> Turned
             bench: b,
         };
     }
-    turns(b, asked)
+    let many = turns(b, asked);
+    let bench = many.bench;
+    Turned {
+        code: 0,
+        made: many.made,
+        bench,
+    }
 }
 
 pub fn close(b: Bench, lane: u32) -> Closed

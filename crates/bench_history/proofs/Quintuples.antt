@@ -2,7 +2,7 @@
 use mathlib.Core.Path.{_≡_, refl, sym, ap, ap₂, _∙_}
 use mathlib.Core.Bool.{Bool, true, false, cond, _&&_}
 use mathlib.Core.List.{List, [], _∷_}
-use Prim.Native.Nat.{ℕ, zero, suc, _+_, _-_, _*_, _^_, _≤_, _<_}
+use Prim.Native.Nat.{ℕ, zero, suc, _+_, _-_, _*_, _%_, _^_, _≤_, _<_}
 use native.Mathlib.Nat.{le-of-eq}
 use native.Mathlib.Numerals.{add-one}
 use native.Mathlib.Decide.{ℕ-discrete}
@@ -20,7 +20,8 @@ use Rattle.published.proofs.Gift128.{length-pairs}
 use Rattle.primitives.specs.Packed.{blockOf, stateOf}
 use Rattle.primitives.specs.Arranged.{next, stands, wordsFrom, pairsFrom}
 use Rattle.primitives.proofs.Blocks.{blockOf-stateOf}
-use Rattle.bench.specs.Cipher.{expanded, quintupled, unquintupled}
+use Rattle.quintuple.specs.Quintuple.{good, quintupled, unquintupled}
+use Rattle.bench.specs.Cipher.{expanded}
 use Rattle.bench.specs.Record.{running, finished, opened, advanced, served}
 use Rattle.bench.proofs.Truth.{cond-true, cond-either, together}
 use Rattle.bench_history.specs.History.{servedTimes}
@@ -73,8 +74,10 @@ five-pairs t ws = pairs-take 5 0 (drop (2 * (5 * t)) ws) ∙ ap (take 5) (pairs-
 
 module _ (ws : List ℕ) (ps : List Pair) (eighty : length ws ≡ 80) (forty : length ps ≡ 40) (stand-for : pairsFrom 0 ws ≡ ps) (x : ℕ) (x-lt : x < 2 ^ 128) where
   -- a quintuple round finds its ten words
-  enough : (t : ℕ) → t < 8 → leb 10 (length (drop (2 * (5 * t)) ws)) && leb (5 * t) 35 ≡ true
-  enough t h = together _ _ (le-leb 10 (length (drop (2 * (5 * t)) ws)) (rw length-drop (omega arith))) (le-leb (5 * t) 35 (omega arith))
+  enough : (t : ℕ) → t < 8 → good (drop (2 * (5 * t)) ws) (5 * t) ≡ true
+  enough t h =
+      together _ _ (le-leb 10 (length (drop (2 * (5 * t)) ws)) (rw length-drop (omega arith)))
+      (together _ _ (le-leb (5 * t) 35 (omega arith)) (eq-eqb (5 * t % 5) 0 (omega arith)))
 
   forward : (t : ℕ) → t < 8
       → quintupled (stateOf (rounds 128 1 (take (5 * t) ps) 0 x)) (drop (2 * (5 * t)) ws) (5 * t) ≡ stateOf (rounds 128 1 (take (5 * suc t) ps) 0 x)

@@ -1,30 +1,31 @@
+-- `bench::close` answers as said: refused in the order 10, 5, and else with the lane idle.
+use mathlib.Core.Path.{_≡_, sym, ap, _∙_}
 use borrow.Author.Needs.{needs}
+use borrow.Author.Tests.{not-true, not-false, lt-ltb, le-ltb}
+use Rattle.bench.specs.Turning.{laneCount}
+use Rattle.bench.specs.Calls.{closeCode, closeOf}
 use Rattle.bench.proofs.close.Statement.{statement}
 use Rattle.bench.proofs.close.Tie as tie
-use Rattle.bench.proofs.close.Reads as reads
-use Rattle.bench.proofs.close.Lts as lts
-use Rattle.bench.proofs.idled.Reads as idled-reads
-use Rattle.bench.proofs.sound.Reads as sound-reads
 
--- src/lib.rt:241:9
 sound-requires : tie.Need-sound-requires
 sound-requires c κs = search needs
 
--- src/lib.rt:242:9
 returns : tie.Need-returns
-returns c = ?
+unfolding closeOf closeCode
+returns c = rw (sym (c .before .sound .ensures) ∙ not-true _ (c .if1 .taken))
 
--- src/lib.rt:245:9
 returns-2 : tie.Need-returns-2
-returns-2 c = ?
+unfolding closeOf closeCode laneCount
+returns-2 c = rw (sym (c .before .before .sound .ensures) ∙ not-false _ (c .before .if1 .left), le-ltb _ laneCount (c .if2 .taken))
 
--- src/lib.rt:247:9
 idled-requires : tie.Need-idled-requires
-idled-requires c κs = ?
+unfolding laneCount
+idled-requires c κs = c .if2 .left
 
--- src/lib.rt:237:1
 returns-3 : tie.Need-returns-3
-returns-3 c = ?
+unfolding closeOf closeCode laneCount
+returns-3 c =
+    rw (sym (c .before .before .before .sound .ensures) ∙ not-false _ (c .before .before .if1 .left), lt-ltb _ laneCount (c .before .if2 .left), c .idled .ensures)
 
 pub close-spec : {M : Type 1} → statement M
 close-spec = tie.close (tie.spec sound-requires returns returns-2 idled-requires returns-3)

@@ -1,19 +1,22 @@
+-- `bench::put` puts a record into a lane.
+use mathlib.Core.Path.{refl}
+use native.Mathlib.Omega.{arith}
+use Rattle.bench.specs.Turning.{laneCount}
+use Rattle.bench.specs.Calls.{put}
 use Rattle.bench.proofs.put.Statement.{statement}
 use Rattle.bench.proofs.put.Tie as tie
-use Rattle.bench.proofs.put.Reads as reads
-use Rattle.bench.proofs.put.Lts as lts
 
--- src/lib.rt:174:5
 mul-l : tie.Need-mul-l
-mul-l c = ?
+unfolding laneCount
+mul-l c = omega arith
 
--- src/lib.rt:174:5
 element-set-from-l : tie.Need-element-set-from-l
-element-set-from-l c = ?
+unfolding laneCount
+element-set-from-l c = c .pre
 
--- src/lib.rt:169:1
 returns : tie.Need-returns
-returns c = ?
+unfolding put
+returns c = refl
 
 pub put-spec : {M : Type 1} → statement M
 put-spec = tie.close (tie.spec mul-l element-set-from-l returns)

@@ -1,30 +1,33 @@
+-- `bench::turn` answers as said: refused in the order 10, 8, and else with the turns made.
+use mathlib.Core.Path.{_≡_, sym, ap, _∙_}
 use borrow.Author.Needs.{needs}
+use borrow.Author.Tests.{not-true, not-false, lt-leb, le-leb}
+use Rattle.bench.specs.Calls.{turnCode, turnOf}
+use Rattle.bench.proofs.Soundness.{is-sound}
+use Rattle.bench.proofs.Made.{made-is}
 use Rattle.bench.proofs.turn.Statement.{statement}
 use Rattle.bench.proofs.turn.Tie as tie
-use Rattle.bench.proofs.turn.Reads as reads
-use Rattle.bench.proofs.turn.Lts as lts
-use Rattle.bench.proofs.sound.Reads as sound-reads
-use Rattle.bench.proofs.turns.Reads as turns-reads
 
--- src/lib.rt:220:9
 sound-requires : tie.Need-sound-requires
 sound-requires c κs = search needs
 
--- src/lib.rt:221:9
 returns : tie.Need-returns
-returns c = ?
+unfolding turnOf turnCode
+returns c = rw (sym (c .before .sound .ensures) ∙ not-true _ (c .if1 .taken))
 
--- src/lib.rt:228:9
 returns-2 : tie.Need-returns-2
-returns-2 c = ?
+unfolding turnOf turnCode
+returns-2 c = rw (sym (c .before .before .sound .ensures) ∙ not-false _ (c .before .if1 .left), lt-leb _ 1024 (c .if2 .taken))
 
--- src/lib.rt:234:5
 turns-requires : tie.Need-turns-requires
 turns-requires c κs = search needs
 
--- src/lib.rt:217:1
 returns-3 : tie.Need-returns-3
-returns-3 c = ?
+unfolding turnOf turnCode
+returns-3 c =
+    let at = c .before .before .before .before in
+    let sound = sym (at .sound .ensures) ∙ not-false _ (c .before .before .before .if1 .left) in
+    rw (sound, le-leb _ 1024 (c .before .before .if2 .left), c .before .turns .ensures .0, c .before .turns .ensures .1, made-is _ _ (is-sound _ sound))
 
 pub turn-spec : {M : Type 1} → statement M
 turn-spec = tie.close (tie.spec sound-requires returns returns-2 turns-requires returns-3)

@@ -1,55 +1,59 @@
+-- `bench::turn_once` makes one turn.
+use mathlib.Core.Path.{_≡_, sym, ap, _∙_}
+use Prim.Native.Nat.{ℕ}
 use borrow.Author.Needs.{needs}
+use Rattle.bench.specs.declared.Bench.{Bench}
+use Rattle.bench.specs.Turning.{laneCount, after, seek, chosen}
+use Rattle.bench.proofs.Seeking.{after-lt}
+use Rattle.bench.proofs.Made.{turned-at, turned-none, chosen-none}
 use Rattle.bench.proofs.turn_once.Statement.{statement}
 use Rattle.bench.proofs.turn_once.Tie as tie
-use Rattle.bench.proofs.turn_once.Reads as reads
-use Rattle.bench.proofs.turn_once.Lts as lts
-use Rattle.bench.proofs.after.Reads as after-reads
-use Rattle.bench.proofs.seek.Reads as seek-reads
-use Rattle.bench.proofs.served.Reads as served-reads
 
--- src/lib.rt:142:31
+-- the search that starts after the last served lane finds the chosen one
+found : (b : Bench) {i n : ℕ} → i ≡ after (b .last) → n ≡ seek laneCount (b .lanes) i → n ≡ chosen b
+unfolding chosen
+found b e f = f ∙ ap (seek laneCount (b .lanes)) e
+
 cast-after : tie.Need-cast-after
 cast-after c = search needs
 
--- src/lib.rt:142:25
 after-requires : tie.Need-after-requires
 after-requires c κs = search needs
 
--- src/lib.rt:142:9
 seek-requires : tie.Need-seek-requires
-seek-requires c κs = ?
+seek-requires c κs = rw (c .after .ensures) (after-lt _)
 
--- src/lib.rt:145:33
 mul-served : tie.Need-mul-served
 mul-served c = search needs
 
--- src/lib.rt:145:33
 array-copy-out-served : tie.Need-array-copy-out-served
 array-copy-out-served c = search needs
 
--- src/lib.rt:145:26
 served-requires : tie.Need-served-requires
 served-requires c κs = search needs
 
--- src/lib.rt:145:9
 mul-t14 : tie.Need-mul-t14
 mul-t14 c = search needs
 
--- src/lib.rt:145:9
 element-set-from-bench : tie.Need-element-set-from-bench
 element-set-from-bench c = search needs
 
--- src/lib.rt:146:22
 cast-bench : tie.Need-cast-bench
 cast-bench c = search needs
 
--- src/lib.rt:147:9
 returns : tie.Need-returns
-returns c = ?
+unfolding laneCount
+returns c =
+    let b = c .before .before .before .before .before .before .before .args .b in
+    let is : c .before .before .before .seek .result ≡ chosen b = found b (c .before .before .before .before .after .ensures) (c .before .before .before .seek .ensures) in
+    (is, turned-at b _ _ is (c .before .before .if1 .taken) (c .served .ensures))
 
--- src/lib.rt:138:1
 returns-2 : tie.Need-returns-2
-returns-2 c = ?
+unfolding laneCount
+returns-2 c =
+    let b = c .before .before .before .before .before .args .b in
+    let is : c .before .seek .result ≡ chosen b = found b (c .before .before .after .ensures) (c .before .seek .ensures) in
+    (is, sym (turned-none b (chosen-none b _ is (c .if1 .left))))
 
 pub turn-once-spec : {M : Type 1} → statement M
 turn-once-spec =

@@ -1,42 +1,53 @@
+-- `bench::turns` makes the turns asked for, while a lane runs.
+use mathlib.Core.Path.{_≡_, sym, ap, _∙_}
+use Prim.Native.Nat.{_-_, _≤_}
+use native.Mathlib.Omega.{arith}
+use borrow.Author.Needs.{needs}
+use Rattle.bench.specs.Turning.{laneCount}
+use Rattle.bench.proofs.Made.{chosen-any, chosen-none}
+use Rattle.bench.proofs.Rest.{Rest, rest-all, rest-one, rest-none, rest-over}
 use Rattle.bench.proofs.turns.Statement.{statement}
 use Rattle.bench.proofs.turns.Tie as tie
-use Rattle.bench.proofs.turns.Reads as reads
-use Rattle.bench.proofs.turns.Lts as lts
-use Rattle.bench.proofs.turn_once.Reads as turn-once-reads
 
 abbrev Inv-loop : tie.InvT-loop
-Inv-loop asked bench₀ made₀ bench made = ?
+Inv-loop asked bench₀ made₀ bench made = (made ≤ asked) × Rest asked bench₀ made bench
 
 abbrev μ-loop : tie.MeasureT-loop
-μ-loop asked bench₀ made₀ bench made = ?
+μ-loop asked bench₀ made₀ bench made = asked - made
 
--- src/lib.rt:157:5
 loop-holds : tie.Need-loop-holds Inv-loop μ-loop
-loop-holds c = ?
+loop-holds c = (omega arith, rest-all (c .args .asked) (c .args .b))
 
--- src/lib.rt:158:13
 turn-once-requires : tie.Need-turn-once-requires Inv-loop μ-loop
-turn-once-requires c κs = ?
+turn-once-requires c κs = search needs
 
--- src/lib.rt:160:13
 returns : tie.Need-returns Inv-loop μ-loop
-returns c = ?
+unfolding laneCount
+returns c =
+    let at = c .before .before .before .before in
+    rest-none (at .before .args .asked) (at .before .args .b) (at .loop .made) (at .loop .bench) (at .loop .inv .1)
+    (chosen-none (at .loop .bench) _ (c .before .before .turn-once .ensures .0) (c .if1 .taken)) (at .loop .inv .0)
 
--- src/lib.rt:164:9
 add-made : tie.Need-add-made Inv-loop μ-loop
-add-made c = ?
+add-made c = omega arith
 
--- src/lib.rt:157:5
 loop-less : tie.Need-loop-less Inv-loop μ-loop
-loop-less c = ?
+loop-less c = omega arith
 
--- src/lib.rt:157:5
 loop-again : tie.Need-loop-again Inv-loop μ-loop
-loop-again c = ?
+unfolding laneCount
+loop-again c =
+    let at = c .before .before .before .before .before in
+    let one = c .before .before .before .turn-once in
+    (omega arith,
+    rw (one .ensures .1)
+    (rest-one (at .before .args .asked) (at .before .args .b) (at .loop .made) (at .loop .bench) (at .loop .inv .1)
+    (chosen-any (at .loop .bench) _ (one .ensures .0) (c .before .if1 .left))))
 
--- src/lib.rt:152:1
 returns-2 : tie.Need-returns-2 Inv-loop μ-loop
-returns-2 c = ?
+returns-2 c =
+    let at = c .before in
+    rest-over (at .before .args .asked) (at .before .args .b) (at .loop .made) (at .loop .bench) (at .loop .inv .1) (omega arith)
 
 pub turns-spec : {M : Type 1} → statement M
 turns-spec =
