@@ -1,6 +1,6 @@
 -- Tests that the checker computes over all places below a number, and the laws that turn a passed test into the fact at each place.
-use mathlib.Core.Path.{_≡_, refl, subst, sym}
-use mathlib.Core.Bool.{Bool, true, false, _&&_}
+use mathlib.Core.Path.{_≡_, ap}
+use mathlib.Core.Bool.{Bool, true, false, cond, _&&_}
 use mathlib.Core.Logic.{⊎-elim}
 use Prim.Native.Nat.{ℕ, zero, suc, _<_}
 use native.Mathlib.Nat.{not-suc-le-zero, le-of-suc-le-suc, eq-or-lt-of-le}
@@ -29,3 +29,10 @@ agree n f g t i h = eqb→eq (f i) (g i) (at n (λ j. eqb (f j) (g j)) t i h)
 
 pub bounded : (n m : ℕ) (f : ℕ → ℕ) → T (below n (λ i. ltb (f i) m)) → (i : ℕ) → i < n → f i < m
 bounded n m f t i h = ltb→lt (f i) m (at n (λ j. ltb (f j) m) t i h)
+
+-- what a test picks
+pub cond-true {ℓ} : {A : Type ℓ} (b : Bool) (x y : A) → b ≡ true → cond b x y ≡ x
+cond-true b x y e = ap (λ (t : Bool). cond t x y) e
+
+pub cond-false {ℓ} : {A : Type ℓ} (b : Bool) (x y : A) → b ≡ false → cond b x y ≡ y
+cond-false b x y e = ap (λ (t : Bool). cond t x y) e

@@ -3,3 +3,4 @@ pub mod Moves
 pub mod Swaps
 pub mod Blocks
 pub mod Arrangements
+pub mod Pairs

@@ -2,17 +2,21 @@
 use mathlib.Core.Path.{_≡_, refl, sym, ap, ap₂, _∙_}
 use mathlib.Core.Bool.{Bool, cond, true, false, _&&_}
 use mathlib.Core.List.{List, [], _∷_}
-use Prim.Native.Nat.{ℕ, zero, suc, _+_, _%_, _^_, _≤_, _<_, suc-le-suc}
+use Prim.Native.Nat.{ℕ, zero, suc, _+_, _-_, _/_, _%_, _^_, _≤_, _<_, suc-le-suc}
 use native.Mathlib.Nat.{le-of-suc-le-suc, not-suc-le-zero}
 use native.Mathlib.Omega.{arith}
 use borrow.Author.Tests.{lt-ltb, le-leb, lt-leb, eq-eqb, ne-eqb}
 use lib.Dec.{ltb, leb, eqb}
 use lib.ListN.{length, getD, take}
+use Rattle.bits.specs.Digit.{bit}
+use Rattle.bits.proofs.Bits.{ofBits-cong}
+use Rattle.bits.proofs.Computed.{cond-true, cond-false}
 use Rattle.published.specs.Rounds.{constant, round, rounds, unround, unrounds}
-use Rattle.primitives.specs.Packed.{blockOf, stateOf}
-use Rattle.primitives.specs.Arranged.{stands, arranged, constantWord, pairsFrom}
+use Rattle.primitives.specs.Packed.{wordOf, blockOf, stateOf}
+use Rattle.primitives.specs.Arranged.{nibbleAt, stands, arranged, constantWord, pairsFrom}
 use Rattle.primitives.specs.declared.State.{State}
-use Rattle.primitives.proofs.Blocks.{Words, stateOf-blockOf}
+use Rattle.primitives.proofs.Blocks.{Words, four, stateOf-blockOf}
+use Rattle.primitives.proofs.Moves.{bit-permuted}
 use Rattle.primitives.proofs.Arrangements.{stands-arranged}
 use Rattle.quintuple.specs.Quintuple.{good, quintupled, unquintupled}
 use Rattle.quintuple.specs.Inner.{exchangedOf, subround, unsubround}
@@ -37,6 +41,10 @@ abbrev pub ten : List ℕ → List ℕ
 ten ws =
     getD ws 0 0 ∷ getD ws 1 0 ∷ getD ws 2 0 ∷ getD ws 3 0 ∷ getD ws 4 0 ∷ getD ws 5 0 ∷ getD ws 6 0 ∷ getD ws 7 0 ∷ getD ws 8 0 ∷ getD ws 9 0 ∷ []
 
+pub first-two : (ws : List ℕ) → 2 ≤ length ws → take 2 ws ≡ getD ws 0 0 ∷ getD ws 1 0 ∷ []
+unfolding listed
+first-two ws h = take-listed 2 ws h
+
 pub first-ten : (ws : List ℕ) → 10 ≤ length ws → take 10 ws ≡ ten ws
 unfolding listed
 first-ten ws h = take-listed 10 ws h
@@ -46,7 +54,7 @@ pub carried : (k r r′ c : ℕ) → k < 5 → r < 40 → r % 5 ≡ k → r ≡ 
 unfolding constantWord
 carried k r r′ c hk hr at same e =
     ap (stands (suc k))
-    (e ∙ ap (λ (b : Bool). cond b (constantWord (r % 5) r) 0) (lt-ltb r 40 hr) ∙ ap₂ (λ (j m : ℕ). arranged (suc j) (2 ^ 31 + constant (suc m))) at same)
+    (e ∙ cond-true _ _ _ (lt-ltb r 40 hr) ∙ ap₂ (λ (j m : ℕ). arranged (suc j) (2 ^ 31 + constant (suc m))) at same)
     ∙ stands-arranged (suc k) (2 ^ 31 + constant (suc r′)) (suc-le-suc hk) (omega (arith, constant-lt (suc r′)))
 
 -- one more round
@@ -84,18 +92,18 @@ no-start ws i h =
 module _ (s : State) (ws : List ℕ) (i : ℕ) where
   pub stays : good ws i ≡ false → s ≡ quintupled s ws i
   unfolding quintupled
-  stays e = sym (ap (λ (b : Bool). cond b (stateOf (rounds 128 1 (pairsFrom 0 (take 10 ws)) i (blockOf s))) s) e)
+  stays e = sym (cond-false _ _ _ e)
 
   pub unstays : good ws i ≡ false → s ≡ unquintupled s ws i
   unfolding unquintupled
-  unstays e = sym (ap (λ (b : Bool). cond b (stateOf (unrounds 128 1 (pairsFrom 0 (take 10 ws)) i (blockOf s))) s) e)
+  unstays e = sym (cond-false _ _ _ e)
 
   module _ (few : 10 ≤ length ws) (near : i ≤ 35) (start : i % 5 ≡ 0) (r : State) (hr : Words r) where
     pub done : blockOf r ≡ rounds 128 1 (pairsFrom 0 (ten ws)) i (blockOf s) → r ≡ quintupled s ws i
     unfolding quintupled
     done e =
         sym
-        (ap (λ (b : Bool). cond b (stateOf (rounds 128 1 (pairsFrom 0 (take 10 ws)) i (blockOf s))) s) (all-good ws i few near start)
+        (cond-true _ _ _ (all-good ws i few near start)
         ∙ ap (λ (l : List ℕ). stateOf (rounds 128 1 (pairsFrom 0 l) i (blockOf s))) (first-ten ws few)
         ∙ ap stateOf (sym e)
         ∙ stateOf-blockOf r hr)
@@ -104,7 +112,20 @@ module _ (s : State) (ws : List ℕ) (i : ℕ) where
     unfolding unquintupled
     undone e =
         sym
-        (ap (λ (b : Bool). cond b (stateOf (unrounds 128 1 (pairsFrom 0 (take 10 ws)) i (blockOf s))) s) (all-good ws i few near start)
+        (cond-true _ _ _ (all-good ws i few near start)
         ∙ ap (λ (l : List ℕ). stateOf (unrounds 128 1 (pairsFrom 0 l) i (blockOf s))) (first-ten ws few)
         ∙ ap stateOf (sym e)
         ∙ stateOf-blockOf r hr)
+
+-- words kept k rounds in, each put in place, make the block that they stand for
+pub in-place : (k : ℕ) (x : State) → blockOf (record { s0 = stands k (x .s0); s1 = stands k (x .s1); s2 = stands k (x .s2); s3 = stands k (x .s3) }) ≡ blockIn k x
+unfolding blockOf blockIn stands
+in-place k x =
+    ofBits-cong 128 _ _
+    (λ q h.
+    four
+    (λ (j : ℕ). bit (wordOf (record { s0 = stands k (x .s0); s1 = stands k (x .s1); s2 = stands k (x .s2); s3 = stands k (x .s3) }) j) (q / 4) ≡ bit (wordOf x j) (nibbleAt (5 - k) (q / 4)))
+    (bit-permuted (nibbleAt (5 - k)) (x .s0) (q / 4) (omega arith))
+    (bit-permuted (nibbleAt (5 - k)) (x .s1) (q / 4) (omega arith))
+    (bit-permuted (nibbleAt (5 - k)) (x .s2) (q / 4) (omega arith))
+    (bit-permuted (nibbleAt (5 - k)) (x .s3) (q / 4) (omega arith)) (q % 4) (omega arith))

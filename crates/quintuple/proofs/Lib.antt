@@ -3,3 +3,4 @@ pub mod Columns
 pub mod Shapes
 pub mod Fixslice
 pub mod Five
+pub mod Eight

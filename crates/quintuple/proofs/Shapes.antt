@@ -14,7 +14,7 @@ use Rattle.quintuple.specs.Boxes.{substituted, boxed}
 use Rattle.quintuple.specs.Inner.{exchangedOf, move, unmove, subround, unmoved, unsubround}
 
 -- the code's move is the move that is meant, by a test over the 32 places
-same-move : (π σ : ℕ → ℕ) → T (below 32 (λ i. eqb (π i) (σ i))) → (x y w : ℕ) → w ≡ permuted π x → x ≡ y → w ≡ permuted σ y
+pub same-move : (π σ : ℕ → ℕ) → T (below 32 (λ i. eqb (π i) (σ i))) → (x y w : ℕ) → w ≡ permuted π x → x ≡ y → w ≡ permuted σ y
 same-move π σ t x y w e f = e ∙ permuted-cong π σ x (agree 32 π σ t) ∙ ap (permuted σ) f
 
 -- swaps with literal masks are moves, after or before a rotation

@@ -20,3 +20,7 @@ quintupled s ws i = cond (good ws i) (stateOf (rounds 128 1 (pairsFrom 0 (take 1
 -- rounds i + 5 to i + 1 undone
 unfoldable pub unquintupled : State → List ℕ → ℕ → State
 unquintupled s ws i = cond (good ws i) (stateOf (unrounds 128 1 (pairsFrom 0 (take 10 ws)) i (blockOf s))) s
+
+-- round 1 alone, by the first two words
+unfoldable pub firstRound : State → List ℕ → State
+firstRound s ws = cond (leb 2 (length ws)) (stateOf (rounds 128 1 (pairsFrom 0 (take 2 ws)) 0 (blockOf s))) s

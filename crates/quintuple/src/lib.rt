@@ -2,7 +2,8 @@
 ghost use mathlib.Core.Path.{_≡_};
 ghost use Rattle.published.specs.Rounds.{entry, unentry};
 ghost use Rattle.quintuple.specs.Boxes.{boxed};
-ghost use Rattle.quintuple.specs.Quintuple.{quintupled, unquintupled};
+ghost use Rattle.primitives.specs.Arranged.{stands};
+ghost use Rattle.quintuple.specs.Quintuple.{quintupled, unquintupled, firstRound};
 ghost use Rattle.quintuple.specs.Inner.{exchangedOf, subround, unsubround};
 use primitives::State;
 use primitives::byte_ror_2;
@@ -286,4 +287,33 @@ pub fn inv_quintuple_round(state: State, rkey: &[u32], i: usize) -> State
         s2: e.s2,
         s3: e.s3,
     }
+}
+
+// A word that was kept one round in, put in place again: the swaps of the crate's rearrange_rkey_0, the last first.
+fn unarranged(x: u32) -> u32
+    ensures { λ r. ⌜ r ≡ stands 1 x ⌝ }
+{
+    let a = swapmovesingle(x, 0x000000ff, 24);
+    let b = swapmovesingle(a, 0x00003333, 18);
+    let c = swapmovesingle(b, 0x000f000f, 12);
+    swapmovesingle(c, 0x00550055, 9)
+}
+
+// Round 1 alone, by the first two of the words, with the words put in place again. With fewer words the state stays.
+pub fn first_round(state: State, rkey: &[u32]) -> State
+    ensures { λ r. ⌜ r ≡ firstRound state (now (rkey .entry)) ⌝ }
+{
+    if rkey.len() < 2 {
+        return state;
+    }
+    let k0 = rkey[0];
+    let k1 = rkey[1];
+    let c0 = round_constant(0);
+    let a = round_0(state, k0, k1, c0);
+    let x = exchanged(a);
+    let s0 = unarranged(x.s0);
+    let s1 = unarranged(x.s1);
+    let s2 = unarranged(x.s2);
+    let s3 = unarranged(x.s3);
+    State { s0, s1, s2, s3 }
 }

@@ -1,0 +1,8 @@
+-- What is proved of the definitions, for the functions here and for the crates above.
+pub mod Updates
+pub mod Exchanges
+pub mod TenWords
+pub mod Growth
+pub mod KeyState
+pub mod KeyBytes
+pub mod Expanded

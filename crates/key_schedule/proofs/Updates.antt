@@ -1,0 +1,151 @@
+-- The update of a key word is a move of bits, and so is any number of updates of a word that is kept in an arrangement.
+use mathlib.Core.Path.{_≡_, refl, sym, ap, subst, _∙_}
+use mathlib.Core.Bool.{Bool, true, false, cond, _&&_}
+use mathlib.Core.List.{[], _∷_}
+use Prim.Native.Nat.{ℕ, zero, suc, _+_, _-_, _*_, _/_, _%_, _^_, _≤_, _<_}
+use native.Mathlib.Nat.{mod-lt, add-comm, add-sub-of-le}
+use native.Mathlib.Omega.{arith}
+use borrow.Author.Tests.{ltb-true, ltb-false}
+use lib.Arith.{digits-lt}
+use lib.Bits.{bitAnd, and-lt}
+use lib.Dec.{T, ltb, ltb→lt, lit<, lit≤}
+use lib.Pow.{pow-add, pow-pos, high, shr-lt}
+use Rattle.bits.specs.Digit.{digit, bit}
+use Rattle.bits.proofs.Bits.{bit-digit, bit-ext, bit-join-low, bit-mod, bit-shr}
+use Rattle.bits.proofs.Computed.{and-left, and-right, bounded}
+use Rattle.bits.proofs.Digits.{digit-lt}
+use Rattle.bits.proofs.Reflect.{W, var, lit, and, or, shr, shl, value}
+use Rattle.published.specs.Key.{ror16}
+use Rattle.primitives.specs.Words.{permuted, rorIn}
+use Rattle.primitives.specs.Arranged.{nibbleAt, arranged, stands}
+use Rattle.primitives.proofs.Moves.{bit-permuted, permuted-lt, permuted-then, isMove, moves}
+use Rattle.primitives.proofs.Arrangements.{nibbleAt-lt}
+use Rattle.key_schedule.specs.Update.{updated, updates, later}
+
+-- ---- hi ‖ lo, and a word of 16 bits that goes round
+
+pub bit-join : (k hi lo i : ℕ) → lo < 2 ^ k → bit (hi * 2 ^ k + lo) i ≡ cond (ltb i k) (bit lo i) (bit hi (i - k))
+bit-join k hi lo i h = go (ltb i k) refl
+  where
+    go : (t : Bool) → ltb i k ≡ t → bit (hi * 2 ^ k + lo) i ≡ cond t (bit lo i) (bit hi (i - k))
+    go true e = bit-join-low k hi lo i (ltb-true i k e)
+    go false e =
+        ap (bit (hi * 2 ^ k + lo)) (sym (add-sub-of-le (ltb-false i k e))) ∙ sym (bit-shr (hi * 2 ^ k + lo) k (i - k))
+        ∙ ap (λ (m : ℕ). bit m (i - k)) (high hi k h)
+
+module _ (r x : ℕ) (hr : r ≤ 16) (hx : x < 2 ^ 16) where
+  whole : 16 - r + r ≡ 16
+  whole = omega arith
+
+  upper : x / 2 ^ r < 2 ^ (16 - r)
+  upper = shr-lt (16 - r) r (rw whole hx)
+
+  pub ror16-lt : ror16 r x < 2 ^ 16
+  unfolding ror16
+  ror16-lt =
+      let all : 2 ^ r * 2 ^ (16 - r) ≡ 2 ^ 16 = sym (pow-add 2 r (16 - r)) ∙ ap (λ (m : ℕ). 2 ^ m) (add-comm r (16 - r) ∙ whole) in
+      subst (λ (m : ℕ). x % 2 ^ r * 2 ^ (16 - r) + x / 2 ^ r < m) all (digits-lt (mod-lt x (pow-pos r)) upper)
+
+  bit-ror16 : (i : ℕ) → i < 16 → bit (ror16 r x) i ≡ bit x ((i + r) % 16)
+  unfolding ror16
+  bit-ror16 i h = bit-join (16 - r) (x % 2 ^ r) (x / 2 ^ r) i upper ∙ go (ltb i (16 - r)) refl
+    where
+      go : (t : Bool) → ltb i (16 - r) ≡ t → cond t (bit (x / 2 ^ r) i) (bit (x % 2 ^ r) (i - (16 - r))) ≡ bit x ((i + r) % 16)
+      go true e =
+          let l : i < 16 - r = ltb-true i (16 - r) e in
+          let place : r + i ≡ (i + r) % 16 = omega arith in
+          bit-shr x r i ∙ ap (bit x) place
+      go false e =
+          let l : 16 - r ≤ i = ltb-false i (16 - r) e in
+          let place : i - (16 - r) ≡ (i + r) % 16 = omega arith in
+          bit-mod x r (i - (16 - r)) (omega arith) ∙ ap (bit x) place
+
+-- ---- the update
+
+-- where bit i of an updated word comes from: each half goes round by itself
+abbrev pub turned : ℕ → ℕ
+turned i = cond (ltb i 16) (rorIn 16 12 i) (rorIn 16 2 i)
+
+half-lt : (w j : ℕ) → digit 65536 w j < 2 ^ 16
+half-lt w j = digit-lt 65536 (lit< tt) w j
+
+pub updated-lt : (w : ℕ) → updated w < 2 ^ 32
+unfolding updated
+updated-lt w =
+    digits-lt (ror16-lt 2 (digit 65536 w 1) (lit≤ tt) (half-lt w 1)) (ror16-lt 12 (digit 65536 w 0) (lit≤ tt) (half-lt w 0))
+
+bit-updated : (w i : ℕ) → i < 32 → bit (updated w) i ≡ bit w (turned i)
+unfolding updated
+bit-updated w i h =
+    bit-join 16 (ror16 2 (digit 65536 w 1)) (ror16 12 (digit 65536 w 0)) i (ror16-lt 12 (digit 65536 w 0) (lit≤ tt) (half-lt w 0))
+    ∙ go (ltb i 16) refl
+  where
+    go : (t : Bool) → ltb i 16 ≡ t
+        → cond t (bit (ror16 12 (digit 65536 w 0)) i) (bit (ror16 2 (digit 65536 w 1)) (i - 16)) ≡ bit w (cond t (rorIn 16 12 i) (rorIn 16 2 i))
+    go true e =
+        let l : i < 16 = ltb-true i 16 e in
+        let place : 16 * 0 + (i + 12) % 16 ≡ rorIn 16 12 i = omega arith in
+        bit-ror16 12 (digit 65536 w 0) (lit≤ tt) (half-lt w 0) i l ∙ bit-digit 16 w 0 ((i + 12) % 16) (mod-lt (i + 12) (lit< tt)) ∙ ap (bit w) place
+    go false e =
+        let l : 16 ≤ i = ltb-false i 16 e in
+        let place : 16 * 1 + (i - 16 + 2) % 16 ≡ rorIn 16 2 i = omega arith in
+        bit-ror16 2 (digit 65536 w 1) (lit≤ tt) (half-lt w 1) (i - 16) (omega arith) ∙ bit-digit 16 w 1 ((i - 16 + 2) % 16) (mod-lt (i - 16 + 2) (lit< tt))
+        ∙ ap (bit w) place
+
+pub updated-move : (w : ℕ) → updated w ≡ permuted turned w
+updated-move w =
+    bit-ext 32 (updated w) (permuted turned w) (updated-lt w) (permuted-lt turned w) (λ i h. bit-updated w i h ∙ sym (bit-permuted turned w i h))
+
+-- ---- in an arrangement
+
+abbrev turns : ℕ → ℕ → ℕ
+turns zero i = i
+turns (suc m) i = turns m (turned i)
+
+updates-move : (m : ℕ) (σ : ℕ → ℕ) (x : ℕ) → updates m (permuted σ x) ≡ permuted (λ i. σ (turns m i)) x
+unfolding updates
+updates-move zero σ x = refl
+updates-move (suc m) σ x =
+    ap updated (updates-move m σ x) ∙ updated-move (permuted (λ i. σ (turns m i)) x)
+    ∙ permuted-then turned (λ i. σ (turns m i)) x (bounded 32 32 turned tt)
+
+abbrev pub laterPlace : ℕ → ℕ → ℕ → ℕ
+laterPlace k m i = nibbleAt (5 - k) (turns m (nibbleAt k i))
+
+pub later-move : (k m x : ℕ) → k < 6 → later k m x ≡ permuted (laterPlace k m) x
+unfolding later arranged stands
+later-move k m x h =
+    ap (permuted (nibbleAt k)) (updates-move m (nibbleAt (5 - k)) x)
+    ∙ permuted-then (nibbleAt k) (λ i. nibbleAt (5 - k) (turns m i)) x (λ i l. nibbleAt-lt k i h l)
+
+-- an expression of one word makes m updates in arrangement k, by the test
+pub is-later : (k m : ℕ) (e : W) → T (ltb k 6 && isMove (laterPlace k m) e) → (x : ℕ) → x < 2 ^ 32 → value 32 (x ∷ []) e ≡ later k m x
+is-later k m e t x h =
+    moves (laterPlace k m) e (and-right (ltb k 6) (isMove (laterPlace k m) e) t) x h
+    ∙ sym (later-move k m x (ltb→lt k 6 (and-left (ltb k 6) (isMove (laterPlace k m) e) t)))
+
+-- ---- the shapes of the updates: parts that go down or up under a mask, or round the word, in one word
+
+infixl 30 _∣_
+abbrev pub _∣_ : W → W → W
+a ∣ b = or a b
+
+-- (x >> k) & m
+abbrev pub down : ℕ → ℕ → W
+down k m = and (shr (var 0) k) (lit m)
+
+-- (x & m) << k
+abbrev pub up : ℕ → ℕ → W
+up m k = shl (and (var 0) (lit m)) k
+
+-- ror(x & m, k)
+abbrev pub around : ℕ → ℕ → W
+around m k = shr (and (var 0) (lit m)) k ∣ shl (and (var 0) (lit m)) (32 - k)
+
+pub goes-around : (m k x : ℕ) → T (ltb m (2 ^ 32) && isMove (rorIn 32 k) (shr (var 0) k ∣ shl (var 0) (32 - k))) → x < 2 ^ 32
+    → permuted (rorIn 32 k) (bitAnd x m) ≡ value 32 (x ∷ []) (around m k)
+goes-around m k x t h =
+    let e : W = shr (var 0) k ∣ shl (var 0) (32 - k) in
+    sym
+    (moves (rorIn 32 k) e (and-right (ltb m (2 ^ 32)) (isMove (rorIn 32 k) e) t) (bitAnd x m)
+    (and-lt 32 x m h (ltb→lt m (2 ^ 32) (and-left (ltb m (2 ^ 32)) (isMove (rorIn 32 k) e) t))))

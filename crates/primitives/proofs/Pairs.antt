@@ -1,0 +1,65 @@
+-- Round words and the pairs that they stand for: two words for each pair, five pairs for each quintuple.
+use mathlib.Core.Path.{_≡_, refl, sym, ap, _∙_}
+use mathlib.Core.List.{List, [], _∷_}
+use Prim.Native.Nat.{ℕ, zero, suc, _+_, _*_}
+use native.Mathlib.Omega.{arith}
+use lib.ListN.{length, take, drop}
+use lib.Seq.{drop-drop}
+use Rattle.published.specs.Rounds.{Pair}
+use Rattle.primitives.specs.Arranged.{next, stands, wordsFrom, pairsFrom}
+
+abbrev double : ℕ → ℕ
+double zero = 0
+double (suc j) = suc (suc (double j))
+
+abbrev nexts : ℕ → ℕ → ℕ
+nexts zero k = k
+nexts (suc j) k = nexts j (next k)
+
+pairs-take : (j k : ℕ) (ws : List ℕ) → pairsFrom k (take (double j) ws) ≡ take j (pairsFrom k ws)
+unfolding pairsFrom
+pairs-take zero k ws = refl
+pairs-take (suc j) k [] = refl
+pairs-take (suc j) k (v ∷ []) = refl
+pairs-take (suc j) k (v ∷ u ∷ ws) =
+    ap (λ (ps : List Pair). record { u = stands (suc k) u; v = stands (suc k) v } ∷ ps) (pairs-take j (next k) ws)
+
+pairs-drop : (j k : ℕ) (ws : List ℕ) → pairsFrom (nexts j k) (drop (double j) ws) ≡ drop j (pairsFrom k ws)
+unfolding pairsFrom
+pairs-drop zero k ws = refl
+pairs-drop (suc j) k [] = refl
+pairs-drop (suc j) k (v ∷ []) = refl
+pairs-drop (suc j) k (v ∷ u ∷ ws) = pairs-drop j (next k) ws
+
+length-pairs : (j k : ℕ) (ws : List ℕ) → length ws ≡ double j → length (pairsFrom k ws) ≡ j
+unfolding pairsFrom
+length-pairs zero k [] e = refl
+length-pairs zero k (v ∷ ws) e = omega arith
+length-pairs (suc j) k [] e = omega arith
+length-pairs (suc j) k (v ∷ []) e = omega arith
+length-pairs (suc j) k (v ∷ u ∷ ws) e = ap suc (length-pairs j (next k) ws (omega arith))
+
+-- eighty words stand for forty pairs
+pub forty : (ws : List ℕ) → length ws ≡ 80 → length (pairsFrom 0 ws) ≡ 40
+forty ws e = length-pairs 40 0 ws e
+
+pub length-words : (k : ℕ) (ps : List Pair) → length (wordsFrom k ps) ≡ 2 * length ps
+unfolding wordsFrom
+length-words k [] = refl
+length-words k (p ∷ ps) = let rest : length (wordsFrom (next k) ps) ≡ 2 * length ps = length-words (next k) ps in omega arith
+
+-- the words from quintuple t on stand for the pairs from it on, and its ten words for its five pairs
+pairs-from : (t : ℕ) (ws : List ℕ) → pairsFrom 0 (drop (2 * (5 * t)) ws) ≡ drop (5 * t) (pairsFrom 0 ws)
+pairs-from zero ws = refl
+pairs-from (suc t) ws =
+    let two : 2 * (5 * suc t) ≡ 2 * (5 * t) + 10 = omega arith in
+    let five : 5 * suc t ≡ 5 * t + 5 = omega arith in
+    ap (λ (i : ℕ). pairsFrom 0 (drop i ws)) two
+    ∙ ap (pairsFrom 0) (sym (drop-drop 10 (2 * (5 * t)) ws))
+    ∙ pairs-drop 5 0 (drop (2 * (5 * t)) ws)
+    ∙ ap (drop 5) (pairs-from t ws)
+    ∙ drop-drop 5 (5 * t) (pairsFrom 0 ws)
+    ∙ ap (λ (i : ℕ). drop i (pairsFrom 0 ws)) (sym five)
+
+pub five-pairs : (t : ℕ) (ws : List ℕ) → pairsFrom 0 (take 10 (drop (2 * (5 * t)) ws)) ≡ take 5 (drop (5 * t) (pairsFrom 0 ws))
+five-pairs t ws = pairs-take 5 0 (drop (2 * (5 * t)) ws) ∙ ap (take 5) (pairs-from t ws)
