@@ -6,12 +6,12 @@ use Prim.Native.Nat.{ℕ, zero, suc, _+_, _≤_, _<_, min}
 use native.Mathlib.Nat.{not-suc-le-zero, le-of-suc-le-suc}
 use native.Mathlib.Omega.{arith}
 use lib.ListN.{length, set}
+use Rattle.bits.proofs.Computed.{cond-true, cond-false}
 use Rattle.bench.specs.declared.Lane.{Lane}
 use Rattle.bench.specs.declared.Bench.{Bench}
 use Rattle.bench.specs.Record.{running, soundLane, served}
 use borrow.Author.Tests.{lt-ltb, le-ltb}
 use Rattle.bench.specs.Turning.{laneCount, laneAt, runs, chosen, anyRuns, turned, turnedBy, servedBy, lacks, total}
-use Rattle.bench.proofs.Truth.{cond-true, cond-false}
 use Rattle.bench.proofs.Records.{served-count, served-lacks, served-sound}
 use Rattle.bench.proofs.Soundness.{Sound, sound-set}
 use Rattle.bench.proofs.Seeking.{runs-phase, chosen-lt, chosen-runs, none-runs}

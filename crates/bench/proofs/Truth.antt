@@ -27,16 +27,7 @@ pub not-refused : (t : Bool) (n next : ℕ) → t ≡ true → unless t n next �
 not-refused true n next e = refl
 not-refused false n next e = absurd (false≢true e)
 
-module _ {ℓ} {A : Type ℓ} where
-  pub cond-true : (t : Bool) (x y : A) → t ≡ true → cond t x y ≡ x
-  cond-true true x y e = refl
-  cond-true false x y e = absurd (false≢true e)
-
-  pub cond-false : (t : Bool) (x y : A) → t ≡ false → cond t x y ≡ y
-  cond-false true x y e = absurd (false≢true (sym e))
-  cond-false false x y e = refl
-
-  -- a fact of a choice, from the fact of either
-  pub cond-either {κ} : (P : A → Type κ) (t : Bool) (x y : A) → (t ≡ true → P x) → (t ≡ false → P y) → P (cond t x y)
-  cond-either P true x y f g = f refl
-  cond-either P false x y f g = g refl
+-- a fact of a choice, from the fact of either
+pub cond-either {ℓ κ} : {A : Type ℓ} (P : A → Type κ) (t : Bool) (x y : A) → (t ≡ true → P x) → (t ≡ false → P y) → P (cond t x y)
+cond-either P true x y f g = f refl
+cond-either P false x y f g = g refl

@@ -7,9 +7,9 @@ use lib.ListN.{drop}
 use Rattle.published.specs.Bytes.{fromBytes}
 use Rattle.primitives.specs.declared.State.{State}
 use Rattle.primitives.specs.Packed.{stateOf}
+use Rattle.key_schedule.specs.Expand.{expanded}
 use Rattle.quintuple.specs.Quintuple.{quintupled, unquintupled}
 use Rattle.bench.specs.declared.Lane.{Lane}
-use Rattle.bench.specs.Cipher.{expanded}
 
 abbrev pub idle : ℕ
 idle = 0

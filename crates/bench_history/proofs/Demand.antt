@@ -8,19 +8,17 @@ use native.Mathlib.Omega.{arith}
 use lib.Dec.{leb}
 use lib.ListN.{length, take, drop, replicate, take-append-drop}
 use borrow.Author.Tests.{eq-eqb, eqb-false, lt-leb, lt-ltb}
+use Rattle.bits.proofs.Computed.{cond-true}
 use Rattle.published.specs.Bytes.{toBytes}
-use Rattle.published.specs.Gift128.{pairsOf}
 use Rattle.published.proofs.Reading.{Bytes}
 use Rattle.published.proofs.Gift128.{block-lt}
-use Rattle.primitives.specs.Arranged.{pairsFrom}
 use Rattle.primitives.specs.Packed.{blockOf}
 use Rattle.bench.specs.declared.Lane.{Lane}
 use Rattle.bench.specs.declared.Bench.{Bench}
-use Rattle.bench.specs.Cipher.{expanded}
 use Rattle.bench.specs.Record.{idle, running, finished, soundLane, soundCount, idleWith, opened}
 use Rattle.bench.specs.Turning.{laneCount, laneAt, lacks}
 use Rattle.bench.specs.Calls.{freshBench, allSound, soundBench, takeCode, takeOf, takenBytes}
-use Rattle.bench.proofs.Truth.{both, together, cond-true}
+use Rattle.bench.proofs.Truth.{both, together}
 use Rattle.bench.proofs.Records.{finished-count, sound-count}
 use Rattle.bench.proofs.Soundness.{Sound, is-sound, says-sound}
 use Rattle.bench_history.specs.History.{Call, opening, turning, taking, closing, codeOf, leaves, run, log, times, closes, releases, never, servedTimes}
@@ -138,9 +136,9 @@ module _ (o : Opening) (ok : Accepted o) where
     pub finished-in-time : laneCount * 8 ≤ length (made o) → own o ≡ 8
     finished-in-time h = omega (arith, at-most, in-time unclosed h, times-take (o .lane) (laneCount * 8) (made o))
 
-    module _ (bytes : Bytes (o .block)) (law : pairsFrom 0 (expanded (o .key)) ≡ pairsOf (o .key)) where
+    module _ (bytes : Bytes (o .block)) where
       here : laneAt (end o .lanes) (o .lane) ≡ standing (o .direction) (o .key) (o .block) (own o)
-      here = stood .is ∙ reach (o .direction) (o .key) (o .block) law (block-lt (o .block) (did .block-long) bytes) (own o) at-most
+      here = stood .is ∙ reach (o .direction) (o .key) (o .block) (block-lt (o .block) (did .block-long) bytes) (own o) at-most
 
       phase-is : laneAt (end o .lanes) (o .lane) .phase ≡ cond (leb 8 (own o)) finished running
       unfolding standing
@@ -161,7 +159,7 @@ module _ (o : Opening) (ok : Accepted o) where
         ready-bytes : own o ≡ 8 → length out ≡ 16 → takenBytes (end o) (o .lane) out ≡ answer (o .direction) (o .key) (o .block)
         unfolding takenBytes standing
         ready-bytes h e =
-            rw (ready-code h e, here, h) (yields (o .direction) (o .key) (o .block) law (block-lt (o .block) (did .block-long) bytes))
+            rw (ready-code h e, here, h) (yields (o .direction) (o .key) (o .block) (block-lt (o .block) (did .block-long) bytes))
 
       -- where the lane stands, and what it yields
       pub stands : Stands o

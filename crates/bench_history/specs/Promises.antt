@@ -12,7 +12,7 @@ use Rattle.published.specs.Gift128.{pairsOf, encrypted, decrypted}
 use Rattle.primitives.specs.Packed.{stateOf}
 use Rattle.bench.specs.declared.Lane.{Lane}
 use Rattle.bench.specs.declared.Bench.{Bench}
-use Rattle.bench.specs.Cipher.{expanded}
+use Rattle.key_schedule.specs.Expand.{expanded}
 use Rattle.bench.specs.Record.{running, finished}
 use Rattle.bench.specs.Turning.{laneCount, laneAt, lacks, total}
 use Rattle.bench.specs.Calls.{freshBench, turnOf, takeOf, takenBytes}
