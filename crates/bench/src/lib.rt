@@ -1,16 +1,21 @@
 // Four lanes that take turns on one cipher.
+use key_schedule::precompute_rkeys;
+use packing::packing;
+use packing::unpacking;
 use primitives::State;
 use quintuple::inv_quintuple_round;
 use quintuple::quintuple_round;
 ghost use mathlib.Core.Path.{_≡_};
 ghost use Prim.Native.Nat.{_<_};
 ghost use lib.ListN.{length};
-ghost use Rattle.bench.specs.Record.{soundLane, advanced, served, idleWith};
+ghost use Rattle.key_schedule.specs.Expand.{expanded};
+ghost use Rattle.bench.specs.Record.{soundLane, opened, advanced, served, idleWith};
 ghost use Rattle.bench.specs.Turning.{laneCount, after, seek, chosen, turned, turnedBy, servedBy};
-ghost use Rattle.bench.specs.Calls.{freshBench, allSound, soundBench, put, idled, turnOf, closeOf};
+ghost use Rattle.bench.specs.Calls.{freshBench, allSound, soundBench, put, idled, openOf, turnOf, takeOf, takenBytes, closeOf};
 
 // How many lanes a bench has.
 pub const LANES: usize = 4;
+
 const LAST: usize = LANES - 1;
 
 // A lane: phase 0 idle, 1 running, 2 finished; direction 0 encrypts, 1 decrypts; count is of its own turns.
@@ -261,6 +266,58 @@ pub fn fresh() -> Bench
     }
 }
 
+// The eighty words of a key.
+fn expanded(key: &[u8]) -> [u32; 80]
+    requires { ⌜ length (now key) ≡ 16 ⌝ }
+    ensures { λ r. ⌜ r ≡ expanded (now (key .entry)) ⌝ }
+{
+    let mut words = [0u32; 80];
+    precompute_rkeys(key, &mut words);
+    words
+}
+
+fn opened_lane(direction: u8, key: &[u8], block: &[u8]) -> Lane
+    requires { ⌜ (length (now key) ≡ 16) × (length (now block) ≡ 16) ⌝ }
+    ensures { λ r. ⌜ r ≡ opened direction (now (key .entry)) (now (block .entry)) ⌝ }
+{
+    let words = expanded(key);
+    let state = packing(block);
+    Lane {
+        phase: 1,
+        direction,
+        count: 0,
+        words,
+        state,
+    }
+}
+
+pub fn open_lane(b: Bench, lane: u32, direction: u32, key: &[u8], block: &[u8]) -> Opened
+    ensures { λ r. ⌜ r ≡ openOf b lane direction (now (key .entry)) (now (block .entry)) ⌝ }
+{
+    let i = lane as usize;
+    if !sound(b) {
+        return Opened { code: 10, bench: b };
+    }
+    if LANES <= i {
+        return Opened { code: 5, bench: b };
+    }
+    let l = b.lanes[i];
+    if l.phase != 0 {
+        return Opened { code: 6, bench: b };
+    }
+    if 1 < direction {
+        return Opened { code: 9, bench: b };
+    }
+    if key.len() != 16 {
+        return Opened { code: 1, bench: b };
+    }
+    if block.len() != 16 {
+        return Opened { code: 2, bench: b };
+    }
+    let bench = put(b, i, opened_lane(direction as u8, key, block));
+    Opened { code: 0, bench }
+}
+
 pub fn turn(b: Bench, asked: u32) -> Turned
     ensures { λ r. ⌜ r ≡ turnOf b asked ⌝ }
 {
@@ -285,6 +342,29 @@ pub fn turn(b: Bench, asked: u32) -> Turned
         made: many.made,
         bench,
     }
+}
+
+pub fn take(b: Bench, lane: u32, out: &mut [u8]) -> Taken
+    ensures { λ r. ⌜ (r ≡ takeOf b lane (now (out .entry))) × (now (out .exit) ≡ takenBytes b lane (now (out .entry))) ⌝ }
+{
+    let i = lane as usize;
+    if !sound(b) {
+        return Taken { code: 10, bench: b };
+    }
+    if LANES <= i {
+        return Taken { code: 5, bench: b };
+    }
+    let l = b.lanes[i];
+    if l.phase != 2 {
+        return Taken { code: 7, bench: b };
+    }
+    if out.len() != 16 {
+        return Taken { code: 2, bench: b };
+    }
+    let state = l.state;
+    unpacking(state, out);
+    let bench = idled(b, i);
+    Taken { code: 0, bench }
 }
 
 pub fn close(b: Bench, lane: u32) -> Closed

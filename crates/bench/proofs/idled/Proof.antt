@@ -1,8 +1,7 @@
 -- `bench::idled` leaves a lane idle and its round words as they were.
-use mathlib.Core.Path.{_≡_, ap, _∙_}
+use mathlib.Core.Path.{ap, _∙_}
 use native.Mathlib.Omega.{arith}
 use borrow.Author.Needs.{needs}
-use Rattle.bench.specs.declared.Lane.{Lane}
 use Rattle.bench.specs.Turning.{laneCount}
 use Rattle.bench.specs.Calls.{put, idled}
 use Rattle.bench.proofs.idled.Statement.{statement}

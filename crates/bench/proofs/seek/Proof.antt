@@ -42,10 +42,12 @@ loop-less c = omega arith
 
 loop-again : tie.Need-loop-again Inv-loop μ-loop
 loop-again c =
-    let at = c .before .before .before .before .before in
-    (rw (c .after .ensures) (after-lt (at .loop .i)), omega arith,
-    ap (seek _ (at .before .args .t1)) (c .after .ensures)
-    ∙ sym (seek-on (at .loop .left) (at .before .args .t1) (at .loop .i) (c .before .before .before .before .loop-test .taken) (c .before .if1 .left)) ∙ at .loop .inv .2)
+    let at = c .before .before .before .before .before in (
+      rw (c .after .ensures) (after-lt (at .loop .i)),
+      omega arith,
+      ap (seek _ (at .before .args .t1)) (c .after .ensures)
+          ∙ sym (seek-on (at .loop .left) (at .before .args .t1) (at .loop .i) (c .before .before .before .before .loop-test .taken) (c .before .if1 .left)) ∙ at .loop .inv .2,
+    )
 
 returns-2 : tie.Need-returns-2 Inv-loop μ-loop
 unfolding laneCount

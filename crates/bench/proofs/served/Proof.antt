@@ -1,5 +1,5 @@
 -- `bench::served` gives a lane a turn of its own.
-use mathlib.Core.Path.{_≡_, sym, ap}
+use mathlib.Core.Path.{sym, ap}
 use mathlib.Core.Bool.{Bool, cond}
 use Prim.Native.Nat.{_+_}
 use native.Mathlib.Omega.{arith}

@@ -1,5 +1,4 @@
 -- `bench::turns` makes the turns asked for, while a lane runs.
-use mathlib.Core.Path.{_≡_, sym, ap, _∙_}
 use Prim.Native.Nat.{_-_, _≤_}
 use native.Mathlib.Omega.{arith}
 use borrow.Author.Needs.{needs}
@@ -38,11 +37,12 @@ loop-again : tie.Need-loop-again Inv-loop μ-loop
 unfolding laneCount
 loop-again c =
     let at = c .before .before .before .before .before in
-    let one = c .before .before .before .turn-once in
-    (omega arith,
-    rw (one .ensures .1)
-    (rest-one (at .before .args .asked) (at .before .args .b) (at .loop .made) (at .loop .bench) (at .loop .inv .1)
-    (chosen-any (at .loop .bench) _ (one .ensures .0) (c .before .if1 .left))))
+    let one = c .before .before .before .turn-once in (
+      omega arith,
+      rw (one .ensures .1)
+          (rest-one (at .before .args .asked) (at .before .args .b) (at .loop .made) (at .loop .bench) (at .loop .inv .1)
+          (chosen-any (at .loop .bench) _ (one .ensures .0) (c .before .if1 .left))),
+    )
 
 returns-2 : tie.Need-returns-2 Inv-loop μ-loop
 returns-2 c =
