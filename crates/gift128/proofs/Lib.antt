@@ -2,3 +2,4 @@
 pub mod Answers
 pub mod Blocks
 pub mod Many
+pub mod RoundTrip
