@@ -1,0 +1,3 @@
+-- What the walks over lent records share.
+pub mod Rows
+pub mod Walk

@@ -1,0 +1,2 @@
+-- What a reader has to believe of the lent bench: how lent records are a bench.
+pub mod Lent
