@@ -27,6 +27,7 @@ use denote.Steps.{only}
 use denote.Struct.Steps.{spelt}
 use denote.Struct.Laws as LL
 use Rattle.bench.specs.declared.Lane.{Lane}
+use Rattle.bench.specs.Record.{idleWith}
 use Rattle.bench.proofs.Lane as T
 use Rattle.bench.proofs.Lane.Laws as T′
 
@@ -39,6 +40,10 @@ R = T.the-row
 
 abbrev pub Records : RattleType
 Records = Array R count
+
+-- what lies past the end of a list
+abbrev pub none : Lane
+none = idleWith []
 
 abbrev pub val : Lane → Val
 val = LL.val T.the-type T′.the-laws

@@ -45,11 +45,10 @@ use denote.Triple.Table.{entered}
 use denote.Triple.Walked.{says, needs, Stays, stay-slice, walkOf, goes-slice, Walks, ends-at, walked, walk-meets}
 use Rattle.bench.specs.declared.Lane.{Lane}
 use Rattle.bench.specs.Turning.{laneCount}
-use Rattle.bench.specs.Record.{idleWith}
 use Rattle.bench.proofs.Lane as T
 use Rattle.bench.proofs.Lane.Laws as T′
 use Rattle.bench_lent.proofs.Walk.{freed}
-use Rattle.bench_lent.proofs.Rows.{R, Records, count, val, vals, vals-of, tells, makes, typed, all-typed, apart, whole, further, copied}
+use Rattle.bench_lent.proofs.Rows.{R, Records, count, none, val, vals, vals-of, tells, makes, typed, all-typed, apart, whole, further, copied}
 use Rattle.bench_lent.proofs.gather.Key.{name as #bench-lent·gather}
 use Rattle.bench_lent.proofs.gather as gather
 use Rattle.bench_lent.proofs.gather.Statement as stated
@@ -75,10 +74,6 @@ module _ {M : Type 1} (𝓤 : URA M) (H : Heap 𝓤) (A : Atoms 𝓤) (W : Given
       suffices ! _ (ends-at 𝓤 H A gather.ended stayed (gather.clauses 𝓤 H A at-mem run) W (((κ, tt), (q, tt), tt, (x, tt), (s ∷ [], tt)), tt) v ys (ys, tt) (refl, tt)) $ says ! (refl, refl) $
       nothing ! $ move ! (3 ∷ 0 ∷ []) $ join ! $ frame ! $
       fjoin ! $ pureI ! (at-slice R x (s ∷ [])) (tt, (tt, tt)) (refl, room) $ fjoin ! $ nothing ! $ move ! (1 ∷ 0 ∷ []) $ fjoin ! $ frame ! $ done !
-
-  -- what lies past the end of a list
-  abbrev none : Lane
-  none = idleWith []
 
   module _ (𝓣 : Tables 𝓤 H) (n-is : length ys ≡ count) (l₀ l₁ l₂ l₃ l₄ l₅ l₆ l₇ l₈ l₉ l₁₀ l₁₁ l₁₂ : ℕ) where
     abbrev C : Calls 𝓤 H
