@@ -1,3 +1,7 @@
 -- What the walks over lent records share.
+pub mod Again
 pub mod Rows
+pub mod Answers
+pub mod Lending
+pub mod Refused
 pub mod Walk

@@ -46,17 +46,17 @@ abbrev pub none : Lane
 none = idleWith []
 
 abbrev pub val : Lane → Val
-val = LL.val T.the-type T′.the-laws
+val = T′.lowered
 
 abbrev pub vals : Lane → List Val
-vals = LL.vals T.the-type T′.the-laws
+vals l = val l ∷ []
 
 -- the machine value of an array of records
 abbrev pub vals-of : List Lane → Val
 vals-of xs = only (array-vals vals xs)
 
 pub tells : Tells R (Is R) vals
-tells = LL.tells T.the-type T′.the-laws
+tells = T′.lowers .val-is
 
 module _ {M : Type 1} (𝓤 : URA M) (H : Heap 𝓤) (A : Atoms 𝓤) (W : Given 𝓤 H A) where
   pub makes : Makes 𝓤 H A R (Is R)

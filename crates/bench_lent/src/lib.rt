@@ -1,12 +1,8 @@
 // The bench's calls over records that a host lends for the call: as many as there are lanes, or the answer is 10.
 // The records are copied out, the by-value call answers on them, and what it gives back is stored in their places.
 use bench::Bench;
-use bench::Closed;
 use bench::LANES;
 use bench::Lane;
-use bench::Opened;
-use bench::Taken;
-use bench::Turned;
 ghost use mathlib.Core.Path.{_≡_};
 ghost use lib.ListN.{length};
 ghost use Rattle.bench.specs.Turning.{laneCount};
@@ -19,6 +15,86 @@ pub struct Turns {
     pub code: u32,
     pub made: u32,
     pub last: u32,
+}
+
+// What a by-value call answers, for every call alike; made is 0 but of a call for turns.
+struct Answer {
+    code: u32,
+    made: u32,
+    last: u32,
+    lanes: [Lane; LANES],
+}
+
+fn opened(all: [Lane; LANES], last: u32, lane: u32, direction: u32, key: &[u8], block: &[u8]) -> Answer
+    ensures { λ r. ⌜ (r .code ≡ openOf (lent all last) lane direction (now (key .entry)) (now (block .entry)) .code)
+        × (r .lanes ≡ openOf (lent all last) lane direction (now (key .entry)) (now (block .entry)) .bench .lanes) ⌝ }
+{
+    let o = bench::open_lane(Bench { lanes: all, last }, lane, direction, key, block);
+    let b = o.bench;
+    let lanes = b.lanes;
+    Answer {
+        code: o.code,
+        made: 0,
+        last: b.last,
+        lanes,
+    }
+}
+
+fn turned(all: [Lane; LANES], last: u32, asked: u32) -> Answer
+    ensures { λ r. ⌜ (r .code ≡ turnOf (lent all last) asked .code)
+        × (r .made ≡ turnOf (lent all last) asked .made)
+        × (r .last ≡ turnOf (lent all last) asked .bench .last)
+        × (r .lanes ≡ turnOf (lent all last) asked .bench .lanes) ⌝ }
+{
+    let t = bench::turn(Bench { lanes: all, last }, asked);
+    let b = t.bench;
+    let lanes = b.lanes;
+    Answer {
+        code: t.code,
+        made: t.made,
+        last: b.last,
+        lanes,
+    }
+}
+
+fn taken(all: [Lane; LANES], last: u32, lane: u32, out: &mut [u8]) -> Answer
+    ensures { λ r. ⌜ (r .code ≡ takeOf (lent all last) lane (now (out .entry)) .code)
+        × (r .lanes ≡ takeOf (lent all last) lane (now (out .entry)) .bench .lanes)
+        × (now (out .exit) ≡ takenBytes (lent all last) lane (now (out .entry))) ⌝ }
+{
+    let t = bench::take(Bench { lanes: all, last }, lane, out);
+    let b = t.bench;
+    let lanes = b.lanes;
+    Answer {
+        code: t.code,
+        made: 0,
+        last: b.last,
+        lanes,
+    }
+}
+
+fn closed(all: [Lane; LANES], last: u32, lane: u32) -> Answer
+    ensures { λ r. ⌜ (r .code ≡ closeOf (lent all last) lane .code) × (r .lanes ≡ closeOf (lent all last) lane .bench .lanes) ⌝ }
+{
+    let c = bench::close(Bench { lanes: all, last }, lane);
+    let b = c.bench;
+    let lanes = b.lanes;
+    Answer {
+        code: c.code,
+        made: 0,
+        last: b.last,
+        lanes,
+    }
+}
+
+fn told(a: Answer) -> Turns
+    ensures { λ r. ⌜ (r .code ≡ a .code) × (r .made ≡ a .made) × (r .last ≡ a .last) ⌝ }
+{
+    Turns {
+        code: a.code,
+        made: a.made,
+        last: a.last,
+    }
 }
 
 // The lent records, by value.
@@ -35,16 +111,18 @@ fn gather(lanes: &mut [Lane]) -> [Lane; LANES]
     all
 }
 
-// Each record to its place.
-fn scatter(lanes: &mut [Lane], all: [Lane; LANES])
+// Each record of an answer to its place; the answer's number.
+fn scatter(lanes: &mut [Lane], a: Answer) -> u32
     requires { ⌜ length (now lanes) ≡ laneCount ⌝ }
-    ensures { λ _. ⌜ now (lanes .exit) ≡ all ⌝ }
+    ensures { λ r. ⌜ (r ≡ a .code) × (now (lanes .exit) ≡ a .lanes) ⌝ }
 {
+    let all = a.lanes;
     let mut i: usize = 0;
     while i < LANES {
         lanes[i] = all[i];
         i += 1;
     }
+    a.code
 }
 
 pub fn open_lane(lanes: &mut [Lane], last: u32, lane: u32, direction: u32, key: &[u8], block: &[u8]) -> u32
@@ -55,9 +133,8 @@ pub fn open_lane(lanes: &mut [Lane], last: u32, lane: u32, direction: u32, key: 
         return 10;
     }
     let all = gather(lanes);
-    let o = bench::open_lane(Bench { lanes: all, last }, lane, direction, key, block);
-    scatter(lanes, o.bench.lanes);
-    o.code
+    let a = opened(all, last, lane, direction, key, block);
+    scatter(lanes, a)
 }
 
 pub fn turn(lanes: &mut [Lane], last: u32, asked: u32) -> Turns
@@ -65,12 +142,16 @@ pub fn turn(lanes: &mut [Lane], last: u32, asked: u32) -> Turns
         × (now (lanes .exit) ≡ turnOf (lent (now (lanes .entry)) last) asked .bench .lanes) ⌝ }
 {
     if lanes.len() != LANES {
-        return Turns { code: 10, made: 0, last };
+        return Turns {
+            code: 10,
+            made: 0,
+            last,
+        };
     }
     let all = gather(lanes);
-    let t = bench::turn(Bench { lanes: all, last }, asked);
-    scatter(lanes, t.bench.lanes);
-    Turns { code: t.code, made: t.made, last: t.bench.last }
+    let a = turned(all, last, asked);
+    scatter(lanes, a);
+    told(a)
 }
 
 pub fn take(lanes: &mut [Lane], last: u32, lane: u32, out: &mut [u8]) -> u32
@@ -82,9 +163,8 @@ pub fn take(lanes: &mut [Lane], last: u32, lane: u32, out: &mut [u8]) -> u32
         return 10;
     }
     let all = gather(lanes);
-    let t = bench::take(Bench { lanes: all, last }, lane, out);
-    scatter(lanes, t.bench.lanes);
-    t.code
+    let a = taken(all, last, lane, out);
+    scatter(lanes, a)
 }
 
 pub fn close(lanes: &mut [Lane], last: u32, lane: u32) -> u32
@@ -95,7 +175,6 @@ pub fn close(lanes: &mut [Lane], last: u32, lane: u32) -> u32
         return 10;
     }
     let all = gather(lanes);
-    let c = bench::close(Bench { lanes: all, last }, lane);
-    scatter(lanes, c.bench.lanes);
-    c.code
+    let a = closed(all, last, lane);
+    scatter(lanes, a)
 }

@@ -1,0 +1,17 @@
+-- `bench_lent::turned` meets its contract: what the by-value call gives, field by field.
+use borrow.Author.Needs.{needs}
+use mathlib.Core.Path.{ap}
+use Rattle.bench.specs.declared.Turned.{Turned}
+use Rattle.bench_lent.proofs.turned.Statement.{statement}
+use Rattle.bench_lent.proofs.turned.Tie as tie
+
+turn-requires : tie.Need-turn-requires
+turn-requires c κs = search needs
+
+returns : tie.Need-returns
+returns c =
+    let e = c .before .before .turn .ensures in
+    (ap (λ (r : Turned). r .code) e, ap (λ (r : Turned). r .made) e, ap (λ (r : Turned). r .bench .last) e, ap (λ (r : Turned). r .bench .lanes) e)
+
+pub turned-spec : {M : Type 1} → statement M
+turned-spec = tie.close (tie.spec turn-requires returns)
