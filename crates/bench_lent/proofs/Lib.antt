@@ -4,4 +4,5 @@ pub mod Rows
 pub mod Answers
 pub mod Lending
 pub mod Refused
+pub mod Through
 pub mod Walk
