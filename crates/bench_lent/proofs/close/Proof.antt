@@ -48,7 +48,7 @@ use Rattle.bench_lent.specs.Lent.{lent}
 use Rattle.bench_lent.proofs.Answer as S
 use Rattle.bench_lent.proofs.Answers.{answer-typed}
 use Rattle.bench_lent.proofs.Again.{LentAgain}
-use Rattle.bench_lent.proofs.Lending.{Gather, Scatter, to-gather, lends, gathered, to-scatter, hands, scattered, lasting}
+use Rattle.bench_lent.proofs.Lending.{ref, mach, slice, Gather, Scatter, to-gather, lends, gathered, to-scatter, hands, scattered, lasting}
 use Rattle.bench_lent.proofs.Refused.{unsound, no-close}
 use Rattle.bench_lent.proofs.Rows.{R, Records, all-typed}
 use Rattle.bench_lent.proofs.Through.{counts, gathers, scatters}
@@ -77,27 +77,21 @@ module _ {M : Type 1} (𝓤 : URA M) (H : Heap 𝓤) (A : Atoms 𝓤) (at-mem : 
   Close = tripleOf 𝓤 H A closed.signature (closed.spec 𝓤 H A at-mem run)
 
 module _ {M : Type 1} (𝓤 : URA M) (H : Heap 𝓤) (A : Atoms 𝓤) (W : Given 𝓤 H A) (at-mem : Memory → SProp 𝓤) (run : Routine → Fun 𝓤) (κ : Lft) (q : Share) (b o : ℕ) (γ : GName) (ys : List Lane) (room : Room R (length ys)) (n i : ℕ) (n-fits : n < 2 ^ 32) (i-fits : i < 2 ^ 32) where
-  abbrev x : RefT (List Lane)
-  x = record { ptr = (b, o); name = γ; now = ys }
-
-  abbrev s : Val
-  s = sliceVal (b, o) (length ys)
-
   abbrev Arg : Type 0
   Arg = RefT (List Lane) × (ℕ × (ℕ × Unit {0}))
 
   abbrev a : Arg
-  a = (x, (n, (i, tt)))
+  a = (ref b o ys γ, (n, (i, tt)))
 
   abbrev at : List Val × (List Val × (List Val × Unit {0}))
-  at = (s ∷ [], (vint w32 n ∷ [], (vint w32 i ∷ [], tt)))
-
-  abbrev slice : Fml
-  slice = MutSlice (named 0) κ R .own x (s ∷ [])
+  at = (mach b o ys ∷ [], (vint w32 n ∷ [], (vint w32 i ∷ [], tt)))
 
   -- what the by-value call answers
   abbrev wanted : Closed
   wanted = closeOf (lent ys n) i
+
+  abbrev Right : Answer → Type 0
+  Right r = (r .code ≡ wanted .code) × (r .lanes ≡ wanted .bench .lanes)
 
   abbrev Post : Val → SProp 𝓤
   Post = walkOf 𝓤 H A close.ended stayed (close.clauses 𝓤 H A at-mem run) .post (((κ, tt), (q, tt), tt, a, at), tt)
@@ -111,11 +105,11 @@ module _ {M : Type 1} (𝓤 : URA M) (H : Heap 𝓤) (A : Atoms 𝓤) (W : Given
       nothing ! $ owned ! u32 (Is u32) (uint-makes 𝓤 H A W w32) i _ (refl, i-fits) $ fjoin ! $ owned ! u32 (Is u32) (uint-makes 𝓤 H A W w32) n _ (refl, n-fits) $ fjoin ! $ move ! (1 ∷ 0 ∷ []) $ fjoin ! $ frame ! $ done !
 
   -- refused: the records are as many as they are, and as they were
-  refuses : Holds (not (eqb (length ys) 4)) → ent 𝓤 (sep 𝓤 (sem 𝓤 H A slice) (A .lft κ q)) (Post (vint w32 10))
+  refuses : Holds (not (eqb (length ys) 4)) → ent 𝓤 (sep 𝓤 (sem 𝓤 H A (slice b o ys κ γ)) (A .lft κ q)) (Post (vint w32 10))
   unfolding laneCount
   refuses other =
       let e = no-close (lent ys n) (unsound ys n other) i in
-      qed W (‵ slice ∷ ‵ (flft κ q) ∷ []) ∵ use1 W (‵ (finally R γ ys)) (lasting 𝓤 H A W κ b o γ ys) $ move ! (1 ∷ 0 ∷ []) $
+      qed W (‵ (slice b o ys κ γ) ∷ ‵ (flft κ q) ∷ []) ∵ use1 W (‵ (finally R γ ys)) (lasting 𝓤 H A W R (named 0) κ (ref b o ys γ) (mach b o ys ∷ [])) $ move ! (1 ∷ 0 ∷ []) $
       owned ! u32 (Is u32) (uint-makes 𝓤 H A W w32) 10 (vint w32 10 ∷ []) (refl, lit< tt) $ move ! (1 ∷ 2 ∷ 0 ∷ []) $
       by ! (exits 10 (vint w32 10) ys (sym (ap (λ (r : Closed). r .code) e), sym (ap (λ (r : Closed). r .bench .lanes) e)) refl)
 
@@ -130,20 +124,20 @@ module _ {M : Type 1} (𝓤 : URA M) (H : Heap 𝓤) (A : Atoms 𝓤) (W : Given
 
   -- what it answers, from its contract
   answered : (v w : Val) → ent 𝓤 (Close 𝓤 H A at-mem run .post (to-closed v) w)
-      (H .⇛ (ex 𝓤 (λ (r : Answer). guard 𝓤 ((r .code ≡ wanted .code) × (r .lanes ≡ wanted .bench .lanes)) (sem 𝓤 H A (S.the-row .own r (w ∷ []))))))
+      (H .⇛ (ex 𝓤 (λ (r : Answer). guard 𝓤 (Right r) (sem 𝓤 H A (S.the-row .own r (w ∷ []))))))
   answered v w =
       qed W (raw (Close 𝓤 H A at-mem run .post (to-closed v) w) ∷ []) ∵ updating ! $
       use1 W (later (some (λ (r : Answer). (‵ ftrue ⊛ ‵ (S.the-row .own r (w ∷ [])))
-      ⊛ some (λ (ws : Lasts closed.ended tt (ys, (n, (i, tt)))). ‵ (lasts closed.ended tt (ys, (n, (i, tt))) ws) ⊛ raw (fact 𝓤 ((r .code ≡ wanted .code) × (r .lanes ≡ wanted .bench .lanes))))))) (id⊢ 𝓤 _) $ await ! tt $ pick ! (λ r.
-      split ! $ move ! (1 ∷ []) $ pick ! (λ ws. split ! $ move ! (1 ∷ []) $ heard ! ((r .code ≡ wanted .code) × (r .lanes ≡ wanted .bench .lanes)) (λ e. at-once ! $
-      show ! (λ (r′ : Answer). guard 𝓤 ((r′ .code ≡ wanted .code) × (r′ .lanes ≡ wanted .bench .lanes)) (sem 𝓤 H A (S.the-row .own r′ (w ∷ [])))) r $ check ! e $ move ! (1 ∷ []) $ split ! $ keep ! (1 ∷ []) $ done !)))
+      ⊛ some (λ (ws : Lasts closed.ended tt (ys, (n, (i, tt)))). ‵ (lasts closed.ended tt (ys, (n, (i, tt))) ws) ⊛ raw (fact 𝓤 (Right r)))))) (id⊢ 𝓤 _) $ await ! tt $ pick ! (λ r.
+      split ! $ move ! (1 ∷ []) $ pick ! (λ ws. split ! $ move ! (1 ∷ []) $ heard ! (Right r) (λ e. at-once ! $
+      show ! (λ (r′ : Answer). guard 𝓤 (Right r′) (sem 𝓤 H A (S.the-row .own r′ (w ∷ [])))) r $ check ! e $ move ! (1 ∷ []) $ split ! $ keep ! (1 ∷ []) $ done !)))
 
   module _ (C : Calls 𝓤 H) (Λ : Loops 𝓤 H) (fm : FmC 𝓤 H (W .laws) C) (known-gather : Triple 𝓤 (C #bench-lent·gather) (Gather 𝓤 H A at-mem run)) (known-closed : Triple 𝓤 (C #bench-lent·closed) (Close 𝓤 H A at-mem run))
       (known-scatter : Triple 𝓤 (C #bench-lent·scatter) (Scatter 𝓤 H A at-mem run)) where
-    walk : ent 𝓤 (onEntry 𝓤 H A close.signature (κ, tt) (q, tt) a at) (WpFn 𝓤 H C Λ code.function (s ∷ vint w32 n ∷ vint w32 i ∷ []) Post)
+    walk : ent 𝓤 (onEntry 𝓤 H A close.signature (κ, tt) (q, tt) a at) (WpFn 𝓤 H C Λ code.function (mach b o ys ∷ vint w32 n ∷ vint w32 i ∷ []) Post)
     unfolding laneCount
     walk =
-        qed W ((‵ (flft κ q) ⊛ ‵ ftrue) ∷ ‵ (owns (MutSlice (named 0) κ R ∷ u32 ∷ u32 ∷ []) a at) ∷ []) ∵ split ! $ move ! (2 ∷ []) $ fsplit ! $ keep ! (0 ∷ 2 ∷ []) $ enter ! C Λ code.function (s ∷ vint w32 n ∷ vint w32 i ∷ []) _ $
+        qed W ((‵ (flft κ q) ⊛ ‵ ftrue) ∷ ‵ (owns (MutSlice (named 0) κ R ∷ u32 ∷ u32 ∷ []) a at) ∷ []) ∵ split ! $ move ! (2 ∷ []) $ fsplit ! $ keep ! (0 ∷ 2 ∷ []) $ enter ! C Λ code.function (mach b o ys ∷ vint w32 n ∷ vint w32 i ∷ []) _ $
         allocated ! (λ l. params1 ! $ pass1 ! (init ! 20 refl (tt, (tt, (record { fits = room .0 }, tt)))) $ pass1 ! (init ! 18 refl (tt, record { fits = n-fits })) $ pass1 ! (init ! 16 refl (tt, record { fits = i-fits })) $ pass0 ! $
         -- [_11; …; _10; …; …; _0; …; the slice; the token]
         move ! (20 ∷ 10 ∷ 8 ∷ []) $ counts ! refl refl refl (room .0) tt
@@ -154,7 +148,7 @@ module _ {M : Type 1} (𝓤 : URA M) (H : Heap 𝓤) (A : Atoms 𝓤) (W : Given
         -- [the slice; the token; the records; _4; _1; _8; _9; _6; _7; _11; …; _10; …; of _9; of _8; of _7; of _6; _5; …; of _4; _3; …; _2; …; of _1; _0; …]
         move ! (2 ∷ []) $ use1 W (raw (Close 𝓤 H A at-mem run .pre (to-closed v))) (goes-closed v) $
         calls-at ! fm (Close 𝓤 H A at-mem run) known-closed (to-closed v) (and-then ! (load ! (from ! (stop !)) (look ! 3 refl)) (and-then ! (load ! (from ! (stop !)) (look ! 22 refl)) (and-then ! (load ! (from ! (stop !)) (look ! 20 refl)) (no-more !)))) (λ w.
-        use1 W (later (some (λ (r : Answer). given ((r .code ≡ wanted .code) × (r .lanes ≡ wanted .bench .lanes)) (‵ (S.the-row .own r (w ∷ [])))))) (answered v w) $ await ! tt $ pick ! (λ r. learn ! (λ e.
+        use1 W (later (some (λ (r : Answer). given (Right r) (‵ (S.the-row .own r (w ∷ [])))))) (answered v w) $ await ! tt $ pick ! (λ r. learn ! (λ e.
         peeks ! S.the-row (Is S.the-row) (shows 𝓤 H A S.the-row) r (w ∷ []) (λ is. land ! (from ! (stop !)) (init ! 17 refl (answer-typed 𝓤 H A W r w is)) $
         move ! (1 ∷ 2 ∷ 0 ∷ 25 ∷ 17 ∷ 4 ∷ 11 ∷ 9 ∷ []) $ scatters W at-mem run κ q b o γ ys room n-is fm ! refl refl refl known-scatter refl refl r w (λ u same.
         -- [the token; the last list; the number; _0; _5; _1; _10; _11; _4; _8; _9; _6; _7; of _11 to _4; _3; …; _2; …; of _1; of _0]

@@ -120,7 +120,7 @@ module _ {M : Type 1} (𝓤 : URA M) (H : Heap 𝓤) (A : Atoms 𝓤) (W : Given
   unfolding laneCount
   refuses other =
       let e = no-open (lent ys n) (unsound ys n other) i d (now key) (now block) in
-      qed W (‵ (slice b o ys κ γ) ∷ ‵ (flft κ q) ∷ ‵ (flft κ₁ q₁) ∷ ‵ (flft κ₂ q₂) ∷ ‵ key-owned ∷ ‵ block-owned ∷ []) ∵ use1 W (‵ (finally R γ ys)) (lasting 𝓤 H A W κ b o γ ys) $ move ! (4 ∷ 5 ∷ []) $ fjoin ! $
+      qed W (‵ (slice b o ys κ γ) ∷ ‵ (flft κ q) ∷ ‵ (flft κ₁ q₁) ∷ ‵ (flft κ₂ q₂) ∷ ‵ key-owned ∷ ‵ block-owned ∷ []) ∵ use1 W (‵ (finally R γ ys)) (lasting 𝓤 H A W R (named 0) κ (ref b o ys γ) (mach b o ys ∷ [])) $ move ! (4 ∷ 5 ∷ []) $ fjoin ! $
       owned ! u32 (Is u32) (uint-makes 𝓤 H A W w32) 10 (vint w32 10 ∷ []) (refl, lit< tt) $ move ! (3 ∷ 2 ∷ 0 ∷ 4 ∷ 5 ∷ []) $
       by ! (exits 10 (vint w32 10) ys (sym (ap (λ (r : Opened). r .code) e), sym (ap (λ (r : Opened). r .bench .lanes) e)) refl)
 
