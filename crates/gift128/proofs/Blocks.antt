@@ -13,7 +13,6 @@ use Rattle.published.specs.Gift128.{pairsOf, encrypted, decrypted}
 use Rattle.published.proofs.Reading.{Bytes}
 use Rattle.published.proofs.Gift128.{block-lt}
 use Rattle.primitives.specs.Packed.{blockOf, stateOf}
-use Rattle.primitives.specs.Arranged.{pairsFrom}
 use Rattle.primitives.specs.declared.State.{State}
 use Rattle.primitives.proofs.Blocks.{blockOf-stateOf}
 use Rattle.primitives.proofs.Pairs.{first-pair}

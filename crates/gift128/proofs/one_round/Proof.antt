@@ -4,7 +4,7 @@ use mathlib.Core.Path.{refl, ap, _∙_}
 use mathlib.Core.List.{List}
 use Prim.Native.Nat.{ℕ}
 use denote.Ref.{now}
-use lib.ListN.{length, take}
+use lib.ListN.{take}
 use Rattle.published.specs.Rounds.{Pair, rounds}
 use Rattle.published.specs.Gift128.{pairsOf}
 use Rattle.published.proofs.Steps.{width128}
