@@ -92,7 +92,7 @@ fn decrypt_state(s: State, rkey: &[u32]) -> State
     requires { ⌜ length (now rkey) ≡ 80 ⌝ }
     ensures { λ r. ⌜ r ≡ stateOf (unrounds 128 1 (pairsFrom 0 (now (rkey .entry))) 0 (blockOf s)) ⌝ }
 {
-    let mut state = s;
+    let mut state: State = s;
     let mut i: usize = 40;
     while 0 < i {
         i -= 5;
