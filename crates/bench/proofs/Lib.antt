@@ -1,0 +1,7 @@
+-- The laws, for the crates above.
+pub mod Truth
+pub mod Records
+pub mod Soundness
+pub mod Seeking
+pub mod Made
+pub mod Rest

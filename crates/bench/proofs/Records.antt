@@ -1,0 +1,93 @@
+-- What a turn of its own does to a sound running record: it stays sound and busy, counts one more and lacks one less.
+use mathlib.Core.Path.{_≡_, refl, sym, ap, _∙_}
+use mathlib.Core.Bool.{true, false, cond, false≢true}
+use Prim.Native.Nat.{ℕ, zero, suc, _+_, _-_, _≤_, _<_}
+use native.Mathlib.Omega.{arith}
+use lib.Dec.{eqb, leb, ltb}
+use borrow.Author.Tests.{lt-ltb, le-leb, eqb-true, eqb-false, leb-true}
+use Rattle.bits.proofs.Computed.{cond-true}
+use Rattle.primitives.specs.declared.State.{State}
+use Rattle.bench.specs.declared.Lane.{Lane}
+use Rattle.bench.specs.Record.{running, finished, idle, soundCount, soundLane, advanced, served}
+use Rattle.bench.specs.Turning.{lacks}
+use Rattle.bench.proofs.Truth.{both, together, cond-either}
+
+-- a lane with a running record that is sound has turns left
+pub running-count : (l : Lane) → soundLane l ≡ true → l .phase ≡ running → l .count < 8
+unfolding soundLane soundCount
+running-count l s e =
+    let h : leb (l .count) 7 ≡ true = rw e at (both (leb (l .direction) 1) (soundCount (l .phase) (l .count)) s .1) in
+    omega (arith, leb-true (l .count) 7 h)
+
+pub finished-count : (l : Lane) → soundLane l ≡ true → l .phase ≡ finished → l .count ≡ 8
+unfolding soundLane soundCount
+finished-count l s e =
+    let h : eqb (l .count) 8 ≡ true = rw e at (both (leb (l .direction) 1) (soundCount (l .phase) (l .count)) s .1) in
+    eqb-true (l .count) 8 h
+
+pub sound-count : (l : Lane) → soundLane l ≡ true → l .count ≤ 8
+unfolding soundLane soundCount
+sound-count l s = go (l .phase) (both (leb (l .direction) 1) (soundCount (l .phase) (l .count)) s .1)
+  where
+    go : (p : ℕ) → soundCount p (l .count) ≡ true → l .count ≤ 8
+    go zero e = omega (arith, eqb-true (l .count) 0 e)
+    go (suc zero) e = omega (arith, leb-true (l .count) 7 e)
+    go (suc (suc zero)) e = omega (arith, eqb-true (l .count) 8 e)
+    go (suc (suc (suc p))) e = absurd (false≢true e)
+
+-- a fourth phase is none
+pub no-phase : (p c : ℕ) → (p ≡ idle → ⊥) → (p ≡ running → ⊥) → (p ≡ finished → ⊥) → soundCount p c ≡ false
+unfolding soundCount
+no-phase zero c n0 n1 n2 = absurd (n0 refl)
+no-phase (suc zero) c n0 n1 n2 = absurd (n1 refl)
+no-phase (suc (suc zero)) c n0 n1 n2 = absurd (n2 refl)
+no-phase (suc (suc (suc p))) c n0 n1 n2 = refl
+
+-- what a record becomes in a turn of its own
+abbrev pub next : Lane → Lane
+next l =
+    record {
+      phase = cond (eqb (l .count + 1) 8) finished running;
+      direction = l .direction;
+      count = l .count + 1;
+      words = l .words;
+      state = advanced l;
+    }
+
+-- the same by its parts: the last turn, and one before it
+pub served-by : (l : Lane) (phase : ℕ) (state : State) → l .count < 8 → phase ≡ cond (eqb (l .count + 1) 8) finished running → state ≡ advanced l
+    → record { phase = phase; direction = l .direction; count = l .count + 1; words = l .words; state = state } ≡ served l
+unfolding served
+served-by l phase state h p s = rw (p, s) (sym (cond-true (ltb (l .count) 8) (next l) l (lt-ltb (l .count) 8 h)))
+
+module _ (l : Lane) (sound : soundLane l ≡ true) (runs : l .phase ≡ running) where
+  pub served-next : served l ≡ next l
+  unfolding served
+  served-next = cond-true (ltb (l .count) 8) (next l) l (lt-ltb (l .count) 8 (running-count l sound runs))
+
+  pub served-count : served l .count ≡ l .count + 1
+  served-count = ap (λ (k : Lane). k .count) served-next
+
+  pub served-busy : served l .phase ≡ idle → ⊥
+  served-busy e =
+      cond-either (λ (p : ℕ). p ≡ idle → ⊥) (eqb (l .count + 1) 8) finished running (λ t. eqb-false 2 0 refl) (λ t. eqb-false 1 0 refl)
+      (sym (ap (λ (k : Lane). k .phase) served-next) ∙ e)
+
+  pub served-sound : soundLane (served l) ≡ true
+  unfolding soundLane soundCount
+  served-sound =
+      rw served-next
+      (together (leb (l .direction) 1) _ (both (leb (l .direction) 1) (soundCount (l .phase) (l .count)) sound .0)
+      (cond-either (λ (p : ℕ). soundCount p (l .count + 1) ≡ true) (eqb (l .count + 1) 8) finished running
+      (λ e. e)
+      (λ e. le-leb (l .count + 1) 7 (omega (arith, running-count l sound runs, eqb-false (l .count + 1) 8 e)))))
+
+  pub served-lacks : suc (lacks (served l)) ≡ lacks l
+  unfolding lacks
+  served-lacks =
+      let c : ℕ = l .count in
+      let left : c < 8 = running-count l sound runs in
+      rw (served-next, runs)
+      (cond-either (λ (p : ℕ). suc (cond (eqb p running) (8 - (c + 1)) 0) ≡ 8 - c) (eqb (c + 1) 8) finished running
+      (λ e. omega (arith, eqb-true (c + 1) 8 e))
+      (λ e. omega arith))

@@ -1,0 +1,39 @@
+-- `bench::sound` tells whether a bench is sound.
+use mathlib.Core.Path.{_≡_, sym, _∙_}
+use mathlib.Core.List.{List, map}
+use Prim.Native.Nat.{ℕ}
+use native.Mathlib.Omega.{arith}
+use lib.ListN.{length, length-map}
+use borrow.Author.Needs.{needs}
+use borrow.Author.Tests.{eq-eqb, lt-ltb, le-ltb}
+use Rattle.bench.specs.Turning.{laneCount}
+use Rattle.bench.specs.Calls.{soundBench}
+use Rattle.bench.proofs.sound.Statement.{statement}
+use Rattle.bench.proofs.sound.Tie as tie
+
+-- an array of records is known to be long enough as what the machine keeps of them
+unmapped : (X Y : Type 0) (f : X → Y) (l : List X) (n : ℕ) → length (map f l) ≡ n → length l ≡ n
+unmapped X Y f l n e = sym (length-map l f) ∙ e
+
+cast-if1 : tie.Need-cast-if1
+cast-if1 c = search needs
+
+all-sound-requires : tie.Need-all-sound-requires
+all-sound-requires c κs = search needs
+
+returns : tie.Need-returns
+unfolding laneCount soundBench
+returns c =
+    let b = c .before .before .before .before .args .b in
+    let long : length (b .lanes) ≡ laneCount = search unmapped in
+    rw (eq-eqb (length (b .lanes)) laneCount long, lt-ltb (b .last) laneCount (omega arith)) (c .all-sound .ensures)
+
+returns-2 : tie.Need-returns-2
+unfolding laneCount soundBench
+returns-2 c =
+    let b = c .before .before .before .args .b in
+    let long : length (b .lanes) ≡ laneCount = search unmapped in
+    rw (eq-eqb (length (b .lanes)) laneCount long, le-ltb (b .last) laneCount (omega arith))
+
+pub sound-spec : {M : Type 1} → statement M
+sound-spec = tie.close (tie.spec cast-if1 all-sound-requires returns returns-2)

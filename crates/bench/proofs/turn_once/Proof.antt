@@ -1,0 +1,72 @@
+-- `bench::turn_once` makes one turn.
+use mathlib.Core.Path.{_≡_, sym, ap, _∙_}
+use Prim.Native.Nat.{ℕ}
+use borrow.Author.Needs.{needs}
+use Rattle.bench.specs.declared.Bench.{Bench}
+use Rattle.bench.specs.Turning.{laneCount, after, seek, chosen}
+use Rattle.bench.proofs.Seeking.{after-lt}
+use Rattle.bench.proofs.Made.{turned-at, turned-none, chosen-none}
+use Rattle.bench.proofs.turn_once.Statement.{statement}
+use Rattle.bench.proofs.turn_once.Tie as tie
+
+-- the search that starts after the last served lane finds the chosen one
+found : (b : Bench) {i n : ℕ} → i ≡ after (b .last) → n ≡ seek laneCount (b .lanes) i → n ≡ chosen b
+unfolding chosen
+found b e f = f ∙ ap (seek laneCount (b .lanes)) e
+
+cast-after : tie.Need-cast-after
+cast-after c = search needs
+
+after-requires : tie.Need-after-requires
+after-requires c κs = search needs
+
+seek-requires : tie.Need-seek-requires
+seek-requires c κs = rw (c .after .ensures) (after-lt _)
+
+mul-served : tie.Need-mul-served
+mul-served c = search needs
+
+array-copy-out-served : tie.Need-array-copy-out-served
+array-copy-out-served c = search needs
+
+served-requires : tie.Need-served-requires
+served-requires c κs = search needs
+
+mul-t14 : tie.Need-mul-t14
+mul-t14 c = search needs
+
+element-set-from-bench : tie.Need-element-set-from-bench
+element-set-from-bench c = search needs
+
+cast-bench : tie.Need-cast-bench
+cast-bench c = search needs
+
+returns : tie.Need-returns
+unfolding laneCount
+returns c =
+    let b = c .before .before .before .before .before .before .before .args .b in
+    let is : c .before .before .before .seek .result ≡ chosen b = found b (c .before .before .before .before .after .ensures) (c .before .before .before .seek .ensures) in
+    (is, turned-at b _ _ is (c .before .before .if1 .taken) (c .served .ensures))
+
+returns-2 : tie.Need-returns-2
+unfolding laneCount
+returns-2 c =
+    let b = c .before .before .before .before .before .args .b in
+    let is : c .before .seek .result ≡ chosen b = found b (c .before .before .after .ensures) (c .before .seek .ensures) in
+    (is, sym (turned-none b (chosen-none b _ is (c .if1 .left))))
+
+pub turn-once-spec : {M : Type 1} → statement M
+turn-once-spec =
+    tie.close
+    (tie.spec
+    cast-after
+    after-requires
+    seek-requires
+    mul-served
+    array-copy-out-served
+    served-requires
+    mul-t14
+    element-set-from-bench
+    cast-bench
+    returns
+    returns-2)

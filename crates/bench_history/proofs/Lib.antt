@@ -1,0 +1,9 @@
+-- The promises kept. `Demand` is what is proved of every history; the others lead there.
+pub mod Accepted
+pub mod Touched
+pub mod Standing
+pub mod Waiting
+pub mod Quintuples
+pub mod Effects
+pub mod Demand
+mod Examples

@@ -1,0 +1,158 @@
+-- What a call does to one lane: nothing, or it serves turns, opens that lane or releases it. Soundness is kept by every call.
+use mathlib.Core.Path.{_≡_, refl, sym, ap, _∙_}
+use mathlib.Core.Bool.{Bool, true, false, _&&_, and-false}
+use mathlib.Core.List.{List, []}
+use mathlib.Core.Logic.{_≢_, _⊎_, inl, inr}
+use Prim.Native.Nat.{ℕ, _≤_, _<_}
+use native.Mathlib.Decide.{ℕ-discrete}
+use lib.Dec.{eqb, leb}
+use borrow.Author.Tests.{eq-eqb, ne-eqb, le-leb}
+use Rattle.bench.specs.declared.Lane.{Lane}
+use Rattle.bench.specs.declared.Bench.{Bench}
+use Rattle.bench.specs.Record.{idle, finished, soundLane, soundCount, idleWith, opened}
+use Rattle.bench.specs.Turning.{laneCount, laneAt, turnedBy, servedBy}
+use Rattle.bench.specs.Calls.{put, idled, takeOf, closeOf}
+use Rattle.bench.proofs.Truth.{together}
+use Rattle.bench.proofs.Soundness.{Sound, sound-put, set-here, set-there}
+use Rattle.bench.proofs.Made.{sound-turns}
+use Rattle.bench_history.specs.History.{Call, opening, turning, taking, closing, codeOf, leaves, serves, closes, releases}
+use Rattle.bench_history.proofs.Accepted.{refused-leaves, refused-serves, opens, turns, takes, closings}
+
+-- ---- soundness
+
+opened-sound : (direction : ℕ) (key block : List ℕ) → direction ≤ 1 → soundLane (opened direction key block) ≡ true
+unfolding soundLane soundCount opened
+opened-sound direction key block h = together (leb direction 1) true (le-leb direction 1 h) refl
+
+idle-sound : (ws : List ℕ) → soundLane (idleWith ws) ≡ true
+unfolding soundLane soundCount idleWith
+idle-sound ws = refl
+
+sound-idled : (b : Bench) (i : ℕ) → Sound b → i < laneCount → Sound (idled b i)
+unfolding idled
+sound-idled b i s h = sound-put b i (idleWith (laneAt (b .lanes) i .words)) s h (idle-sound (laneAt (b .lanes) i .words))
+
+done-sound : (b : Bench) (c : Call) → codeOf b c ≡ 0 → Sound (leaves b c)
+done-sound b (opening lane direction key block) e =
+    let o = opens b lane direction key block e in
+    rw (o .left) (sound-put b lane (opened direction key block) (o .sound) (o .lane-lt) (opened-sound direction key block (o .direction-le)))
+done-sound b (turning asked) e = let o = turns b asked e in rw (o .left) (sound-turns asked b (o .sound))
+done-sound b (taking lane out) e = let o = takes b lane out e in rw (o .left) (sound-idled b lane (o .sound) (o .lane-lt))
+done-sound b (closing lane) e = let o = closings b lane e in rw (o .left) (sound-idled b lane (o .sound) (o .lane-lt))
+
+pub sound-leaves : (b : Bench) (c : Call) → Sound b → Sound (leaves b c)
+sound-leaves b c s =
+    elim (ℕ-discrete (codeOf b c) 0) [
+      | yes e ↦ done-sound b c e
+      | no ne ↦ rw (refused-leaves b c ne) s
+    ]
+
+-- ---- one lane of a bench with another record in some lane
+
+module _ (b : Bench) (i : ℕ) (l : Lane) where
+  pub put-here : Sound b → i < laneCount → laneAt (put b i l .lanes) i ≡ l
+  unfolding put
+  put-here s h = set-here (b .lanes) i l (rw (s .size) h)
+
+  pub put-there : (n : ℕ) → n ≢ i → laneAt (put b i l .lanes) n ≡ laneAt (b .lanes) n
+  unfolding put
+  put-there n ne = set-there (b .lanes) i l n ne
+
+  pub put-last : put b i l .last ≡ b .last
+  unfolding put
+  put-last = refl
+
+-- ---- what a call does to lane n
+
+pub record Same (n : ℕ) (b : Bench) (c : Call) : Type 0 where
+  pub lane : laneAt (leaves b c .lanes) n ≡ laneAt (b .lanes) n
+  pub last : leaves b c .last ≡ b .last
+  pub none : serves b c ≡ []
+  pub kept : releases n b c ≡ false
+
+pub record Entered (n : ℕ) (b : Bench) (c : Call) : Type 0 where
+  pub direction : ℕ
+  pub key : List ℕ
+  pub block : List ℕ
+  pub call : c ≡ opening n direction key block
+  pub accepted : codeOf b c ≡ 0
+  pub was-idle : laneAt (b .lanes) n .phase ≡ idle
+
+-- only a lane that is finished is left otherwise than by closing it
+pub record Left (n : ℕ) (b : Bench) (c : Call) : Type 0 where
+  pub released : releases n b c ≡ true
+  pub how : (closes n b c ≡ true) ⊎ (laneAt (b .lanes) n .phase ≡ finished)
+  pub idle-now : laneAt (leaves b c .lanes) n .phase ≡ idle
+
+pub data Touch (n : ℕ) (b : Bench) (c : Call) : Type 0 where
+  same : Same n b c → Touch n b c
+  entered : Entered n b c → Touch n b c
+  left : Left n b c → Touch n b c
+  served : (asked : ℕ) → leaves b c ≡ turnedBy asked b → serves b c ≡ servedBy asked b → releases n b c ≡ false → Touch n b c
+
+-- a record put into a lane other than n
+elsewhere : (n : ℕ) (b : Bench) (c : Call) (i : ℕ) (l : Lane) → leaves b c ≡ put b i l → serves b c ≡ [] → releases n b c ≡ false → n ≢ i → Touch n b c
+elsewhere n b c i l e z k ne =
+    same (record {
+      lane = ap (λ (d : Bench). laneAt (d .lanes) n) e ∙ put-there b i l n ne;
+      last = ap (λ (d : Bench). d .last) e ∙ put-last b i l;
+      none = z;
+      kept = k;
+    })
+
+-- what is refused releases nothing, and what is done in another lane does not release this one
+refused-keeps : (n : ℕ) (b : Bench) (c : Call) → codeOf b c ≢ 0 → releases n b c ≡ false
+unfolding codeOf releases
+refused-keeps n b (opening lane direction key block) ne = refl
+refused-keeps n b (turning asked) ne = refl
+refused-keeps n b (taking lane out) ne = rw (ne-eqb (takeOf b lane out .code) 0 ne) (and-false (eqb lane n))
+refused-keeps n b (closing lane) ne = rw (ne-eqb (closeOf b lane .code) 0 ne) (and-false (eqb lane n))
+
+other-keeps : (n lane : ℕ) (t : Bool) → n ≢ lane → eqb lane n && t ≡ false
+other-keeps n lane t ne = rw (ne-eqb lane n (λ e. ne (sym e)))
+
+idled-here : (b : Bench) (i : ℕ) → Sound b → i < laneCount → laneAt (idled b i .lanes) i .phase ≡ idle
+unfolding idled idleWith
+idled-here b i s h = ap (λ (l : Lane). l .phase) (put-here b i (idleWith (laneAt (b .lanes) i .words)) s h)
+
+touch-done : (n : ℕ) (b : Bench) (c : Call) → codeOf b c ≡ 0 → Touch n b c
+unfolding serves releases closes codeOf idled
+touch-done n b (opening lane direction key block) e =
+    let o = opens b lane direction key block e in
+    elim (ℕ-discrete n lane) [
+      | yes p ↦ entered (record { direction = direction; key = key; block = block; call = ap (λ (i : ℕ). opening i direction key block) (sym p); accepted = e; was-idle = rw p (o .was-idle) })
+      | no ne ↦ elsewhere n b (opening lane direction key block) lane (opened direction key block) (o .left) refl refl ne
+    ]
+touch-done n b (turning asked) e = served asked (turns b asked e .left) (turns b asked e .logged) refl
+touch-done n b (taking lane out) e =
+    let o = takes b lane out e in
+    elim (ℕ-discrete n lane) [
+      | yes p ↦ left (record {
+        released = together (eqb lane n) _ (eq-eqb lane n (sym p)) (eq-eqb _ 0 e);
+        how = inr (rw p (o .was-finished));
+        idle-now = rw (o .left, p) (idled-here b lane (o .sound) (o .lane-lt));
+      })
+      | no ne ↦ elsewhere n b (taking lane out) lane (idleWith (laneAt (b .lanes) lane .words)) (o .left) refl (other-keeps n lane _ ne) ne
+    ]
+touch-done n b (closing lane) e =
+    let o = closings b lane e in
+    elim (ℕ-discrete n lane) [
+      | yes p ↦ left (record {
+        released = together (eqb lane n) _ (eq-eqb lane n (sym p)) (eq-eqb _ 0 e);
+        how = inl (together (eqb lane n) _ (eq-eqb lane n (sym p)) (eq-eqb _ 0 e));
+        idle-now = rw (o .left, p) (idled-here b lane (o .sound) (o .lane-lt));
+      })
+      | no ne ↦ elsewhere n b (closing lane) lane (idleWith (laneAt (b .lanes) lane .words)) (o .left) refl (other-keeps n lane _ ne) ne
+    ]
+
+pub touch : (n : ℕ) (b : Bench) (c : Call) → Touch n b c
+touch n b c =
+    elim (ℕ-discrete (codeOf b c) 0) [
+      | yes e ↦ touch-done n b c e
+      | no ne ↦ same (record {
+        lane = ap (λ (d : Bench). laneAt (d .lanes) n) (refused-leaves b c ne);
+        last = ap (λ (d : Bench). d .last) (refused-leaves b c ne);
+        none = refused-serves b c ne;
+        kept = refused-keeps n b c ne;
+      })
+    ]

@@ -1,0 +1,3 @@
+-- What is promised of a bench over every list of calls.
+pub mod History
+pub mod Promises

@@ -1,0 +1,134 @@
+-- What is promised of every history that starts with a fresh bench: where an opened lane stands after t turns of its own, what it yields and when,
+-- that no lane escapes, what turns do, and what no call does.
+use mathlib.Core.Path.{_≡_}
+use mathlib.Core.Bool.{true, false, cond}
+use mathlib.Core.List.{List, [], _∷_, _++_}
+use Prim.Native.Nat.{ℕ, _+_, _-_, _*_, _≤_, _<_, min}
+use lib.Dec.{eqb, leb}
+use lib.ListN.{length, take, drop, replicate}
+use Rattle.published.specs.Bytes.{fromBytes}
+use Rattle.published.specs.Rounds.{rounds, unrounds}
+use Rattle.published.specs.Gift128.{pairsOf, encrypted, decrypted}
+use Rattle.primitives.specs.Packed.{stateOf}
+use Rattle.bench.specs.declared.Lane.{Lane}
+use Rattle.bench.specs.declared.Bench.{Bench}
+use Rattle.key_schedule.specs.Expand.{expanded}
+use Rattle.bench.specs.Record.{running, finished}
+use Rattle.bench.specs.Turning.{laneCount, laneAt, lacks, total}
+use Rattle.bench.specs.Calls.{freshBench, turnOf, takeOf, takenBytes}
+use Rattle.bench_history.specs.History.{Call, opening, turning, codeOf, leaves, lent, holds, tells, serves, run, log, times, lastOf, closes, releases, never, names, isTurning, servedTimes}
+
+-- ---- what a lane's record is to be
+
+-- the block after t turns: 5t published rounds done, or the rounds 40 down to 41 − 5t undone
+unfoldable pub reached : ℕ → List ℕ → List ℕ → ℕ → ℕ
+reached direction key block t =
+    cond (eqb direction 0)
+    (rounds 128 1 (take (5 * t) (pairsOf key)) 0 (fromBytes block))
+    (unrounds 128 1 (drop (40 - 5 * t) (pairsOf key)) (40 - 5 * t) (fromBytes block))
+
+-- the whole record then: running until the eighth turn, and finished with it
+unfoldable pub standing : ℕ → List ℕ → List ℕ → ℕ → Lane
+standing direction key block t =
+    record {
+      phase = cond (leb 8 t) finished running;
+      direction = direction;
+      count = t;
+      words = expanded key;
+      state = stateOf (reached direction key block t);
+    }
+
+-- what a lane yields in the end
+unfoldable pub answer : ℕ → List ℕ → List ℕ → List ℕ
+answer direction key block = cond (eqb direction 0) (encrypted key block) (decrypted key block)
+
+-- ---- an opening in a history: the calls before it on a fresh bench, what it asks for, and the calls since
+
+pub record Opening : Type 0 where
+  pub before : List Call
+  pub lane : ℕ
+  pub direction : ℕ
+  pub key : List ℕ
+  pub block : List ℕ
+  pub since : List Call
+
+abbrev pub asks : Opening → Call
+asks o = opening (o .lane) (o .direction) (o .key) (o .block)
+
+-- all calls, and the bench after them
+abbrev pub calls : Opening → List Call
+calls o = o .before ++ asks o ∷ o .since
+
+abbrev pub end : Opening → Bench
+end o = run freshBench (calls o)
+
+-- the bench that the opening finds, and the one that it leaves
+abbrev pub finds : Opening → Bench
+finds o = run freshBench (o .before)
+
+abbrev pub left : Opening → Bench
+left o = leaves (finds o) (asks o)
+
+-- the lanes served since, one for each turn made on the bench, and how many of these turns are the lane's own
+abbrev pub made : Opening → List ℕ
+made o = log (left o) (o .since)
+
+abbrev pub own : Opening → ℕ
+own o = times (o .lane) (made o)
+
+-- the opening is done; since then the lane was not closed; nor taken from
+abbrev pub Accepted : Opening → Type 0
+Accepted o = codeOf (finds o) (asks o) ≡ 0
+
+abbrev pub Unclosed : Opening → Type 0
+Unclosed o = never (closes (o .lane)) (left o) (o .since) ≡ true
+
+abbrev pub Kept : Opening → Type 0
+Kept o = never (releases (o .lane)) (left o) (o .since) ≡ true
+
+-- Of a lane that was opened and kept: after t turns of its own it stands at 5t rounds, before the eighth a take gives 7 and no bytes, and
+-- after the eighth a take gives the answer.
+pub record Stands (o : Opening) : Type 0 where
+  pub at-most : own o ≤ 8
+  pub stands : laneAt (end o .lanes) (o .lane) ≡ standing (o .direction) (o .key) (o .block) (own o)
+  pub early : own o < 8 → (out : List ℕ) → (takeOf (end o) (o .lane) out ≡ record { code = 7; bench = end o }) × (takenBytes (end o) (o .lane) out ≡ out)
+  pub ready : own o ≡ 8 → (out : List ℕ) → length out ≡ 16
+      → (takeOf (end o) (o .lane) out .code ≡ 0) × (takenBytes (end o) (o .lane) out ≡ answer (o .direction) (o .key) (o .block))
+  pub only-ready : (out : List ℕ) → takeOf (end o) (o .lane) out .code ≡ 0 → own o ≡ 8
+
+-- Of a lane that was opened and not closed: among the first 32 turns made on the bench since, eight are its own.
+abbrev pub InTime : Opening → Type 0
+InTime o = laneCount * 8 ≤ length (made o) → 8 ≤ times (o .lane) (take (laneCount * 8) (made o))
+
+-- Of any lane in a history: it is held under an opening that was accepted and kept.
+pub record Held (cs : List Call) (n : ℕ) : Type 0 where
+  pub by : Opening
+  pub whole : calls by ≡ cs
+  pub lane : by .lane ≡ n
+  pub accepted : Accepted by
+  pub kept : Kept by
+
+-- ---- what calls do to a bench, whoever made it
+
+-- An accepted call for turns: how many it makes and tells, that it makes them as calls for one turn do, and that it stops only where no lane runs.
+pub record Turning (b : Bench) (asked : ℕ) : Type 0 where
+  pub told : turnOf b asked .made ≡ min asked (total lacks (b .lanes))
+  pub logged : length (serves b (turning asked)) ≡ turnOf b asked .made
+  pub risen : total (λ l. l .count) (leaves b (turning asked) .lanes) ≡ total (λ l. l .count) (b .lanes) + turnOf b asked .made
+  pub to-the-end : (n : ℕ) → n < laneCount → laneAt (leaves b (turning asked) .lanes) n .phase ≡ running → turnOf b asked .made ≡ asked
+  pub singly : run b (replicate asked (turning 1)) ≡ leaves b (turning asked)
+  pub singly-logged : log b (replicate asked (turning 1)) ≡ serves b (turning asked)
+  pub lanes : (n : ℕ) → laneAt (leaves b (turning asked) .lanes) n ≡ servedTimes (times n (serves b (turning asked))) (laneAt (b .lanes) n)
+  pub last : leaves b (turning asked) .last ≡ lastOf (b .last) (serves b (turning asked))
+
+-- A refused call changes nothing lent, and tells no turn.
+pub record Refused (b : Bench) (c : Call) : Type 0 where
+  pub bench : leaves b c ≡ b
+  pub buffer : holds b c ≡ lent c
+  pub turns : tells b c ≡ 0
+  pub log : serves b c ≡ []
+
+-- A call changes no lane that it does not name, and only turns move the number of the lane last served.
+pub record Frame (b : Bench) (c : Call) : Type 0 where
+  pub lanes : (n : ℕ) → names n c ≡ false → laneAt (leaves b c .lanes) n ≡ laneAt (b .lanes) n
+  pub last : isTurning c ≡ false → leaves b c .last ≡ b .last
