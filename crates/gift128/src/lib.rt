@@ -92,7 +92,7 @@ fn decrypt_state(s: State, rkey: &[u32]) -> State
     requires { ⌜ length (now rkey) ≡ 80 ⌝ }
     ensures { λ r. ⌜ r ≡ stateOf (unrounds 128 1 (pairsFrom 0 (now (rkey .entry))) 0 (blockOf s)) ⌝ }
 {
-    let mut state: State = s;
+    let mut state = s;
     let mut i: usize = 40;
     while 0 < i {
         i -= 5;
@@ -109,8 +109,8 @@ fn encrypt_in_place(rkey: &[u32], block: &mut [u8])
     ensures { λ r. ⌜ now (block .exit) ≡ encryptedBy (now (rkey .entry)) (now (block .entry)) ⌝ }
 {
     let s = packing(block);
-    let t = encrypt_state(s, rkey);
-    unpacking(t, block);
+    let sealed = encrypt_state(s, rkey);
+    unpacking(sealed, block);
 }
 
 // And from one buffer to another.
@@ -121,8 +121,8 @@ fn encrypt_into(rkey: &[u32], input: &[u8], output: &mut [u8])
     ensures { λ r. ⌜ now (output .exit) ≡ encryptedBy (now (rkey .entry)) (now (input .entry)) ⌝ }
 {
     let s = packing(input);
-    let t = encrypt_state(s, rkey);
-    unpacking(t, output);
+    let sealed = encrypt_state(s, rkey);
+    unpacking(sealed, output);
 }
 
 // One block by round words, any eighty. Refusals: 4, 2.
@@ -162,8 +162,8 @@ fn decrypt_in_place(rkey: &[u32], block: &mut [u8])
     ensures { λ r. ⌜ now (block .exit) ≡ decryptedBy (now (rkey .entry)) (now (block .entry)) ⌝ }
 {
     let s = packing(block);
-    let t = decrypt_state(s, rkey);
-    unpacking(t, block);
+    let opened = decrypt_state(s, rkey);
+    unpacking(opened, block);
 }
 
 // And from one buffer to another.
@@ -174,8 +174,8 @@ fn decrypt_into(rkey: &[u32], input: &[u8], output: &mut [u8])
     ensures { λ r. ⌜ now (output .exit) ≡ decryptedBy (now (rkey .entry)) (now (input .entry)) ⌝ }
 {
     let s = packing(input);
-    let t = decrypt_state(s, rkey);
-    unpacking(t, output);
+    let opened = decrypt_state(s, rkey);
+    unpacking(opened, output);
 }
 
 // One block by round words, any eighty. Refusals: 4, 2.
@@ -221,8 +221,8 @@ pub fn one_round(key: &[u8], block: &mut [u8]) -> u32
     let mut rkey = [0u32; 80];
     precompute_rkeys(key, &mut rkey);
     let s = packing(block);
-    let t = first_round(s, &rkey);
-    unpacking(t, block);
+    let once = first_round(s, &rkey);
+    unpacking(once, block);
     0
 }
 
