@@ -1,0 +1,6 @@
+-- The laws behind the line program's proofs.
+pub mod Texts
+pub mod Numerals
+pub mod Good
+pub mod Lengths
+pub mod Whole
