@@ -61,5 +61,8 @@ pairs-from (suc t) ws =
     ∙ drop-drop 5 (5 * t) (pairsFrom 0 ws)
     ∙ ap (λ (i : ℕ). drop i (pairsFrom 0 ws)) (sym five)
 
+pub first-pair : (ws : List ℕ) → pairsFrom 0 (take 2 ws) ≡ take 1 (pairsFrom 0 ws)
+first-pair ws = pairs-take 1 0 ws
+
 pub five-pairs : (t : ℕ) (ws : List ℕ) → pairsFrom 0 (take 10 (drop (2 * (5 * t)) ws)) ≡ take 5 (drop (5 * t) (pairsFrom 0 ws))
 five-pairs t ws = pairs-take 5 0 (drop (2 * (5 * t)) ws) ∙ ap (take 5) (pairs-from t ws)

@@ -1,0 +1,64 @@
+-- A block packed, taken through rounds and unpacked; and round words that come from a key.
+use mathlib.Core.Path.{_≡_, refl, ap, _∙_}
+use mathlib.Core.Bool.{Bool, true, false, cond}
+use mathlib.Core.List.{List}
+use Prim.Native.Nat.{ℕ, _^_, _<_}
+use borrow.Author.Tests.{eq-eqb, le-leb}
+use lib.Dec.{eqb, lit≤}
+use lib.ListN.{length, take, replicate}
+use Rattle.bits.proofs.Computed.{cond-true}
+use Rattle.published.specs.Bytes.{fromBytes, toBytes}
+use Rattle.published.specs.Rounds.{Pair, rounds, unrounds}
+use Rattle.published.specs.Gift128.{pairsOf, encrypted, decrypted}
+use Rattle.published.proofs.Reading.{Bytes}
+use Rattle.published.proofs.Gift128.{block-lt}
+use Rattle.primitives.specs.Packed.{blockOf, stateOf}
+use Rattle.primitives.specs.Arranged.{pairsFrom}
+use Rattle.primitives.specs.declared.State.{State}
+use Rattle.primitives.proofs.Blocks.{blockOf-stateOf}
+use Rattle.primitives.proofs.Pairs.{first-pair}
+use Rattle.quintuple.specs.Quintuple.{firstRound}
+use Rattle.packing.specs.Packing.{packed, unpacked}
+use Rattle.packing.proofs.Inverse.{packed-block, unpacked-block}
+use Rattle.key_schedule.specs.Expand.{expandCode, expanded, expandedInto}
+use Rattle.key_schedule.proofs.Expanded.{pairs-of-expanded, length-expanded}
+use Rattle.gift128.specs.Calls.{encryptedBy, decryptedBy, newWords}
+
+-- what f does to the state, the call does to the bytes
+pub through : (f : ℕ → ℕ) (s t : State) (input output e : List ℕ) → ((x : ℕ) → x < 2 ^ 128 → f x < 2 ^ 128) → length input ≡ 16 → Bytes input → length output ≡ 16
+    → s ≡ packed input → t ≡ stateOf (f (blockOf s)) → e ≡ unpacked t output → e ≡ toBytes 16 (f (fromBytes input))
+through f s t input output e f-lt len h len′ packs goes unpacks =
+    let x-lt : fromBytes input < 2 ^ 128 = block-lt input len h in
+    let read : blockOf s ≡ fromBytes input = ap blockOf (packs ∙ packed-block input len) ∙ blockOf-stateOf (fromBytes input) x-lt in
+    unpacks ∙ unpacked-block t output len′
+    ∙ ap (toBytes 16) (ap blockOf (goes ∙ ap (λ (x : ℕ). stateOf (f x)) read) ∙ blockOf-stateOf (f (fromBytes input)) (f-lt (fromBytes input) x-lt))
+
+-- by the words of a key it is the published cipher
+pub encrypted-key : (key block : List ℕ) → encryptedBy (expanded key) block ≡ encrypted key block
+unfolding encryptedBy encrypted
+encrypted-key key block = ap (λ (ps : List Pair). toBytes 16 (rounds 128 1 ps 0 (fromBytes block))) (pairs-of-expanded key)
+
+pub decrypted-key : (key block : List ℕ) → decryptedBy (expanded key) block ≡ decrypted key block
+unfolding decryptedBy decrypted
+decrypted-key key block = ap (λ (ps : List Pair). toBytes 16 (unrounds 128 1 ps 0 (fromBytes block))) (pairs-of-expanded key)
+
+-- eighty words lent to expansion by a good key become the key's; by a bad one they stay
+pub filled : (key ws : List ℕ) → length key ≡ 16 → length ws ≡ 80 → expandedInto key ws ≡ expanded key
+unfolding expandedInto expandCode
+filled key ws k w =
+    cond-true _ _ _ (ap (λ (n : ℕ). eqb n 0) (cond-true _ _ _ (eq-eqb (length key) 16 k) ∙ cond-true _ _ _ (eq-eqb (length ws) 80 w)))
+
+pub new-words : (key : List ℕ) → expandedInto key (replicate 80 0) ≡ newWords key
+unfolding expandedInto expandCode newWords
+new-words key = go (eqb (length key) 16)
+  where
+    go : (b : Bool) → cond (eqb (cond b 0 1) 0) (expanded key) (replicate 80 0) ≡ cond b (expanded key) (replicate 80 0)
+    go true = refl
+    go false = refl
+
+-- round 1 by the words of a key
+pub first-of-key : (key : List ℕ) (s : State) → firstRound s (expanded key) ≡ stateOf (rounds 128 1 (take 1 (pairsOf key)) 0 (blockOf s))
+unfolding firstRound
+first-of-key key s =
+    cond-true _ _ _ (le-leb 2 (length (expanded key)) (rw length-expanded (lit≤ tt)))
+    ∙ ap (λ (ps : List Pair). stateOf (rounds 128 1 ps 0 (blockOf s))) (first-pair (expanded key) ∙ ap (take 1) (pairs-of-expanded key))

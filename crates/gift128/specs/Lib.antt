@@ -1,0 +1,2 @@
+-- What each call of the cipher answers.
+pub mod Calls

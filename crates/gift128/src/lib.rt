@@ -1,0 +1,294 @@
+// GIFT-128: one block and many, by a key, by round words and by a `Gift128`. The two block functions of lib.rs, with refusals.
+ghost use mathlib.Core.Path.{_≡_};
+ghost use denote.Ref.{now};
+ghost use Prim.Native.Nat.{_%_};
+ghost use lib.ListN.{length};
+ghost use Rattle.published.specs.Rounds.{rounds, unrounds};
+ghost use Rattle.published.specs.Gift128.{encrypted, decrypted};
+ghost use Rattle.primitives.specs.Packed.{blockOf, stateOf};
+ghost use Rattle.primitives.specs.Arranged.{pairsFrom};
+ghost use Rattle.gift128.specs.Calls.{Gives, blockCode, keyCode, wordsCode, manyCode, newCode, newWords};
+ghost use Rattle.gift128.specs.Calls.{encryptedBy, decryptedBy, afterOne, allBlocks};
+use key_schedule::precompute_rkeys;
+use packing::packing;
+use packing::unpacking;
+use primitives::State;
+use quintuple::first_round;
+use quintuple::inv_quintuple_round;
+use quintuple::quintuple_round;
+
+// A cipher instance: its eighty round words. One made from a refused key has eighty zero words, which are those of the all-zero key.
+#[repr(C)]
+pub struct Gift128 {
+    pub k: [u32; 80],
+}
+
+// What making one answers.
+#[repr(C)]
+pub struct Made {
+    pub code: u32,
+    pub cipher: Gift128,
+}
+
+impl Gift128 {
+    pub const BLOCK_SIZE: usize = 16;
+
+    pub const KEY_SIZE: usize = 16;
+
+    pub const ROUNDS: usize = 40;
+
+    // Refusal: 1.
+    pub fn new(key: &[u8]) -> Made
+        ensures { λ r. ⌜ (r .code ≡ newCode (now (key .entry))) × (r .cipher .k ≡ newWords (now (key .entry))) ⌝ }
+    {
+        let mut k = [0u32; 80];
+        let code = precompute_rkeys(key, &mut k);
+        let cipher = Gift128 { k };
+        Made { code, cipher }
+    }
+
+    // One block. Refusal: 2.
+    pub fn encrypt_block(self, block: &mut [u8]) -> u32
+        ensures { λ r. ⌜ Gives (blockCode (now (block .entry))) (encryptedBy (self .k) (now (block .entry))) (now (block .entry)) r (now (block .exit)) ⌝ }
+    {
+        if block.len() != Gift128::BLOCK_SIZE {
+            return 2;
+        }
+        let k = self.k;
+        encrypt_in_place(&k, block);
+        0
+    }
+
+    pub fn decrypt_block(self, block: &mut [u8]) -> u32
+        ensures { λ r. ⌜ Gives (blockCode (now (block .entry))) (decryptedBy (self .k) (now (block .entry))) (now (block .entry)) r (now (block .exit)) ⌝ }
+    {
+        if block.len() != Gift128::BLOCK_SIZE {
+            return 2;
+        }
+        let k = self.k;
+        decrypt_in_place(&k, block);
+        0
+    }
+}
+
+// The forty rounds, five at a time: each quintuple reads the ten words that start at twice its offset.
+fn encrypt_state(s: State, rkey: &[u32]) -> State
+    requires { ⌜ length (now rkey) ≡ 80 ⌝ }
+    ensures { λ r. ⌜ r ≡ stateOf (rounds 128 1 (pairsFrom 0 (now (rkey .entry))) 0 (blockOf s)) ⌝ }
+{
+    let mut state = s;
+    let mut i: usize = 0;
+    while i < 40 {
+        let at = 2 * i;
+        state = quintuple_round(state, &rkey[at..], i);
+        i += 5;
+    }
+    state
+}
+
+// And undone, from offset 35 down to 0, both included.
+fn decrypt_state(s: State, rkey: &[u32]) -> State
+    requires { ⌜ length (now rkey) ≡ 80 ⌝ }
+    ensures { λ r. ⌜ r ≡ stateOf (unrounds 128 1 (pairsFrom 0 (now (rkey .entry))) 0 (blockOf s)) ⌝ }
+{
+    let mut state = s;
+    let mut i: usize = 40;
+    while 0 < i {
+        i -= 5;
+        let at = 2 * i;
+        state = inv_quintuple_round(state, &rkey[at..], i);
+    }
+    state
+}
+
+// One block by eighty words, in place.
+fn encrypt_in_place(rkey: &[u32], block: &mut [u8])
+    requires { ⌜ length (now rkey) ≡ 80 ⌝ }
+    requires { ⌜ length (now block) ≡ 16 ⌝ }
+    ensures { λ r. ⌜ now (block .exit) ≡ encryptedBy (now (rkey .entry)) (now (block .entry)) ⌝ }
+{
+    let s = packing(block);
+    let t = encrypt_state(s, rkey);
+    unpacking(t, block);
+}
+
+// And from one buffer to another.
+fn encrypt_into(rkey: &[u32], input: &[u8], output: &mut [u8])
+    requires { ⌜ length (now rkey) ≡ 80 ⌝ }
+    requires { ⌜ length (now input) ≡ 16 ⌝ }
+    requires { ⌜ length (now output) ≡ 16 ⌝ }
+    ensures { λ r. ⌜ now (output .exit) ≡ encryptedBy (now (rkey .entry)) (now (input .entry)) ⌝ }
+{
+    let s = packing(input);
+    let t = encrypt_state(s, rkey);
+    unpacking(t, output);
+}
+
+// One block by round words, any eighty. Refusals: 4, 2.
+pub fn encrypt_by_words(rkey: &[u32], block: &mut [u8]) -> u32
+    ensures { λ r. ⌜ Gives (wordsCode (now (rkey .entry)) (now (block .entry))) (encryptedBy (now (rkey .entry)) (now (block .entry))) (now (block .entry)) r (now (block .exit)) ⌝ }
+{
+    if rkey.len() != 80 {
+        return 4;
+    }
+    if block.len() != Gift128::BLOCK_SIZE {
+        return 2;
+    }
+    encrypt_in_place(rkey, block);
+    0
+}
+
+// One block by a key. Refusals: 1, 2.
+pub fn encrypt_by_key(key: &[u8], block: &mut [u8]) -> u32
+    ensures { λ r. ⌜ Gives (keyCode (now (key .entry)) (now (block .entry))) (encrypted (now (key .entry)) (now (block .entry))) (now (block .entry)) r (now (block .exit)) ⌝ }
+{
+    if key.len() != Gift128::KEY_SIZE {
+        return 1;
+    }
+    if block.len() != Gift128::BLOCK_SIZE {
+        return 2;
+    }
+    let mut rkey = [0u32; 80];
+    precompute_rkeys(key, &mut rkey);
+    encrypt_in_place(&rkey, block);
+    0
+}
+
+// One block by eighty words, in place.
+fn decrypt_in_place(rkey: &[u32], block: &mut [u8])
+    requires { ⌜ length (now rkey) ≡ 80 ⌝ }
+    requires { ⌜ length (now block) ≡ 16 ⌝ }
+    ensures { λ r. ⌜ now (block .exit) ≡ decryptedBy (now (rkey .entry)) (now (block .entry)) ⌝ }
+{
+    let s = packing(block);
+    let t = decrypt_state(s, rkey);
+    unpacking(t, block);
+}
+
+// And from one buffer to another.
+fn decrypt_into(rkey: &[u32], input: &[u8], output: &mut [u8])
+    requires { ⌜ length (now rkey) ≡ 80 ⌝ }
+    requires { ⌜ length (now input) ≡ 16 ⌝ }
+    requires { ⌜ length (now output) ≡ 16 ⌝ }
+    ensures { λ r. ⌜ now (output .exit) ≡ decryptedBy (now (rkey .entry)) (now (input .entry)) ⌝ }
+{
+    let s = packing(input);
+    let t = decrypt_state(s, rkey);
+    unpacking(t, output);
+}
+
+// One block by round words, any eighty. Refusals: 4, 2.
+pub fn decrypt_by_words(rkey: &[u32], block: &mut [u8]) -> u32
+    ensures { λ r. ⌜ Gives (wordsCode (now (rkey .entry)) (now (block .entry))) (decryptedBy (now (rkey .entry)) (now (block .entry))) (now (block .entry)) r (now (block .exit)) ⌝ }
+{
+    if rkey.len() != 80 {
+        return 4;
+    }
+    if block.len() != Gift128::BLOCK_SIZE {
+        return 2;
+    }
+    decrypt_in_place(rkey, block);
+    0
+}
+
+// One block by a key. Refusals: 1, 2.
+pub fn decrypt_by_key(key: &[u8], block: &mut [u8]) -> u32
+    ensures { λ r. ⌜ Gives (keyCode (now (key .entry)) (now (block .entry))) (decrypted (now (key .entry)) (now (block .entry))) (now (block .entry)) r (now (block .exit)) ⌝ }
+{
+    if key.len() != Gift128::KEY_SIZE {
+        return 1;
+    }
+    if block.len() != Gift128::BLOCK_SIZE {
+        return 2;
+    }
+    let mut rkey = [0u32; 80];
+    precompute_rkeys(key, &mut rkey);
+    decrypt_in_place(&rkey, block);
+    0
+}
+
+// The state after round 1, by a key. Refusals: 1, 2.
+pub fn one_round(key: &[u8], block: &mut [u8]) -> u32
+    ensures { λ r. ⌜ Gives (keyCode (now (key .entry)) (now (block .entry))) (afterOne (now (key .entry)) (now (block .entry))) (now (block .entry)) r (now (block .exit)) ⌝ }
+{
+    if key.len() != Gift128::KEY_SIZE {
+        return 1;
+    }
+    if block.len() != Gift128::BLOCK_SIZE {
+        return 2;
+    }
+    let mut rkey = [0u32; 80];
+    precompute_rkeys(key, &mut rkey);
+    let s = packing(block);
+    let t = first_round(s, &rkey);
+    unpacking(t, block);
+    0
+}
+
+// Block n of the output from block n of the input.
+fn encrypt_all(rkey: &[u32], input: &[u8], output: &mut [u8])
+    requires { ⌜ length (now rkey) ≡ 80 ⌝ }
+    requires { ⌜ length (now input) % 16 ≡ 0 ⌝ }
+    requires { ⌜ length (now output) ≡ length (now input) ⌝ }
+    ensures { λ r. ⌜ now (output .exit) ≡ allBlocks (encryptedBy (now (rkey .entry))) (now (input .entry)) ⌝ }
+{
+    let mut a: usize = 0;
+    while a < input.len() {
+        let e = a + 16;
+        encrypt_into(rkey, &input[a..e], &mut output[a..e]);
+        a = e;
+    }
+}
+
+// Many blocks by a key. Refusals: 1, 2, 3.
+pub fn encrypt_blocks(key: &[u8], input: &[u8], output: &mut [u8]) -> u32
+    ensures { λ r. ⌜ Gives (manyCode (now (key .entry)) (now (input .entry)) (now (output .entry))) (allBlocks (encrypted (now (key .entry))) (now (input .entry))) (now (output .entry)) r (now (output .exit)) ⌝ }
+{
+    if key.len() != Gift128::KEY_SIZE {
+        return 1;
+    }
+    if input.len() % 16 != 0 {
+        return 2;
+    }
+    if output.len() != input.len() {
+        return 3;
+    }
+    let mut rkey = [0u32; 80];
+    precompute_rkeys(key, &mut rkey);
+    encrypt_all(&rkey, input, output);
+    0
+}
+
+// Block n of the output from block n of the input.
+fn decrypt_all(rkey: &[u32], input: &[u8], output: &mut [u8])
+    requires { ⌜ length (now rkey) ≡ 80 ⌝ }
+    requires { ⌜ length (now input) % 16 ≡ 0 ⌝ }
+    requires { ⌜ length (now output) ≡ length (now input) ⌝ }
+    ensures { λ r. ⌜ now (output .exit) ≡ allBlocks (decryptedBy (now (rkey .entry))) (now (input .entry)) ⌝ }
+{
+    let mut a: usize = 0;
+    while a < input.len() {
+        let e = a + 16;
+        decrypt_into(rkey, &input[a..e], &mut output[a..e]);
+        a = e;
+    }
+}
+
+// Many blocks by a key. Refusals: 1, 2, 3.
+pub fn decrypt_blocks(key: &[u8], input: &[u8], output: &mut [u8]) -> u32
+    ensures { λ r. ⌜ Gives (manyCode (now (key .entry)) (now (input .entry)) (now (output .entry))) (allBlocks (decrypted (now (key .entry))) (now (input .entry))) (now (output .entry)) r (now (output .exit)) ⌝ }
+{
+    if key.len() != Gift128::KEY_SIZE {
+        return 1;
+    }
+    if input.len() % 16 != 0 {
+        return 2;
+    }
+    if output.len() != input.len() {
+        return 3;
+    }
+    let mut rkey = [0u32; 80];
+    precompute_rkeys(key, &mut rkey);
+    decrypt_all(&rkey, input, output);
+    0
+}
