@@ -1,20 +1,21 @@
 -- No answer is longer than 35 bytes, and no text that is written longer than 64.
-use mathlib.Core.Path.{_≡_, refl, sym, ap, _∙_}
+use mathlib.Core.Path.{_≡_, refl, ap, _∙_}
 use mathlib.Core.Bool.{Bool, true, false, cond}
-use mathlib.Core.List.{List, [], _∷_, _++_}
-use Prim.Native.Nat.{ℕ, zero, suc, _+_, _*_, _/_, _%_, _^_, _≤_, _<_}
+use mathlib.Core.List.{List, [], _∷_}
+use Prim.Native.Nat.{ℕ, zero, suc, _+_, _*_, _/_, _^_, _≤_, _<_}
 use native.Mathlib.Nat.{pow-suc}
 use native.Mathlib.Omega.{arith}
 use borrow.Author.Tests.{ltb-true, ltb-false}
-use lib.Dec.{ltb, eqb, lit<}
-use lib.ListN.{length, getD, length-append}
-use Rattle.published.specs.Bytes.{fromBytes, toBytes}
-use Rattle.published.specs.Gift128.{pairsOf, encrypted, decrypted}
+use lib.Dec.{ltb, eqb}
+use lib.ListN.{length, length-append}
+use Rattle.published.specs.Bytes.{toBytes}
+use Rattle.published.specs.Gift128.{encrypted, decrypted}
 use Rattle.published.proofs.Reading.{length-toBytes}
+use Rattle.gift128.specs.Calls.{afterOne}
 use Rattle.lines.specs.declared.Reader.{Reader}
-use Rattle.lines.specs.Hex.{bytesOf, hexOf}
+use Rattle.lines.specs.Hex.{hexOf}
 use Rattle.lines.specs.Decimal.{decimalOf}
-use Rattle.lines.specs.Line.{afterOne, isGood, keyText, blockText, wordsText, packedText, response, badLine, answerOf}
+use Rattle.lines.specs.Line.{isGood, wordsText, packedText, response, badLine, answerOf}
 use Rattle.lines.specs.Input.{answerLine, doneLine}
 use Rattle.lines.specs.Session.{nextLine, held, closingOf}
 use Rattle.lines.proofs.Numerals.{decimal-short, decimal-long}

@@ -4,3 +4,5 @@ pub mod Numerals
 pub mod Good
 pub mod Lengths
 pub mod Whole
+pub mod Responses
+pub mod Shape

@@ -1,31 +1,38 @@
 -- Digits of text: each rule by a test over all that a byte can be, and the step of a decimal number.
-use mathlib.Core.Path.{_≡_, refl, sym, ap, ap₂, _∙_}
+use mathlib.Core.Path.{_≡_, refl, ap, ap₂, _∙_}
 use mathlib.Core.Bool.{Bool, true, false, cond, _&&_}
 use mathlib.Core.List.{List, [], _∷_, _++_}
 use Prim.Native.Nat.{ℕ, zero, suc, _+_, _-_, _*_, _/_, _%_, _≤_, _<_}
 use native.Mathlib.Nat.{not-suc-le-zero, le-of-suc-le-suc}
 use native.Mathlib.Numerals.{add-one}
 use native.Mathlib.Omega.{arith}
-use borrow.Author.Tests.{ltb-false, lt-ltb, le-ltb}
-use lib.Dec.{T, ltb, ltb→lt}
+use borrow.Author.Tests.{ltb-true, ltb-false, lt-ltb, le-ltb}
+use lib.Dec.{ltb, leb}
 use lib.ListN.{length, getD, drop}
 use lib.Seq.{drop-cons}
-use Rattle.bits.proofs.Computed.{agree, and-left, and-right}
+use Rattle.bits.proofs.Computed.{agree}
 use Rattle.lines.specs.Hex.{hexDigits, placeOf, valueOf, allHex, bytesOf, hexOf}
 use Rattle.lines.specs.Decimal.{lastDigits, decimalOf}
 
 -- the digits are two runs of bytes
-pub digit-is : (d : ℕ) → d < 16 → cond (ltb d 10) (48 + d) (87 + d) ≡ getD hexDigits d 0
-digit-is = agree 16 (λ d. cond (ltb d 10) (48 + d) (87 + d)) (λ d. getD hexDigits d 0) tt
+pub digit-is : (d : ℕ) → d < 16 → cond (ltb d 10) (48 + d) (d - 10 + 97) ≡ getD hexDigits d 0
+digit-is = agree 16 (λ d. cond (ltb d 10) (48 + d) (d - 10 + 97)) (λ d. getD hexDigits d 0) tt
 
-pub value-is : (c : ℕ) → c < 256 → cond (ltb c 48) 16 (cond (ltb c 58) (c - 48) (cond (ltb c 97) 16 (cond (ltb c 103) (c - 87) 16))) ≡ valueOf c
+pub value-is : (c : ℕ) → c < 256 → cond (ltb c 48) 16 (cond (leb c 57) (c - 48) (cond (ltb c 97) 16 (cond (leb c 102) (c - 97 + 10) 16))) ≡ valueOf c
 unfolding valueOf
-value-is = agree 256 (λ c. cond (ltb c 48) 16 (cond (ltb c 58) (c - 48) (cond (ltb c 97) 16 (cond (ltb c 103) (c - 87) 16)))) (λ c. placeOf c hexDigits) tt
+value-is = agree 256 (λ c. cond (ltb c 48) 16 (cond (leb c 57) (c - 48) (cond (ltb c 97) 16 (cond (leb c 102) (c - 97 + 10) 16)))) (λ c. placeOf c hexDigits) tt
 
 pub hexOf-append : (a b : List ℕ) → hexOf (a ++ b) ≡ hexOf a ++ hexOf b
 unfolding hexOf
 hexOf-append [] b = refl
 hexOf-append (x ∷ a) b = ap (λ (t : List ℕ). getD hexDigits (x / 16) 0 ∷ getD hexDigits (x % 16) 0 ∷ t) (hexOf-append a b)
+
+pub both : (a b : Bool) → a && b ≡ true → (a ≡ true) × (b ≡ true)
+both true b e = (refl, e)
+both false b e = (e, absurd (never e))
+  where
+    never : false ≡ true → ⊥
+    never p = let z : _≡_ {A = ℕ} 0 1 = cc in omega arith
 
 -- hex digits one after the other
 module _ (text : List ℕ) (i : ℕ) (h : i < length text) where
@@ -37,15 +44,11 @@ module _ (text : List ℕ) (i : ℕ) (h : i < length text) where
   unfolding allHex
   more-hex v = rw (drop-cons text i 0 h, lt-ltb (valueOf (getD text i 0)) 16 (omega arith), add-one i)
 
-T-true : (b : Bool) → T b → b ≡ true
-T-true true t = refl
-T-true false t = absurd t
-
 pub hex-at : (text : List ℕ) → allHex text ≡ true → (i : ℕ) → i < length text → valueOf (getD text i 0) < 16
 unfolding allHex
 hex-at [] e i h = absurd (not-suc-le-zero h)
-hex-at (c ∷ cs) e zero h = ltb→lt (valueOf c) 16 (and-left (ltb (valueOf c) 16) (allHex cs) (rw e tt))
-hex-at (c ∷ cs) e (suc i) h = hex-at cs (T-true (allHex cs) (and-right (ltb (valueOf c) 16) (allHex cs) (rw e tt))) i (le-of-suc-le-suc h)
+hex-at (c ∷ cs) e zero h = ltb-true (valueOf c) 16 (both (ltb (valueOf c) 16) (allHex cs) e .0)
+hex-at (c ∷ cs) e (suc i) h = hex-at cs (both (ltb (valueOf c) 16) (allHex cs) e .1) i (le-of-suc-le-suc h)
 
 pub length-bytesOf : (n : ℕ) (text : List ℕ) → length text ≡ n + n → length (bytesOf text) ≡ n
 unfolding bytesOf

@@ -3,7 +3,7 @@ use mathlib.Core.Path.{_≡_, refl, sym, ap, _∙_}
 use mathlib.Core.Bool.{Bool, true, false}
 use mathlib.Core.List.{List, [], _∷_, _++_, append-assoc}
 use Prim.Native.Nat.{ℕ, _+_, _-_, _≤_, _<_, min}
-use native.Mathlib.Nat.{min-eq-left}
+use native.Mathlib.Nat.{min-eq-left, min-le-right}
 use native.Mathlib.Numerals.{add-one}
 use native.Mathlib.Omega.{arith}
 use lib.ListN.{length, getD, take, set, replicate, length-append, length-replicate}
@@ -48,7 +48,7 @@ module _ (l : List ℕ) (b : ℕ) where
 
 -- a text that holds what f makes of the first elements, one element at a time
 pub grows : (f : List ℕ → List ℕ) → ((a b : List ℕ) → f (a ++ b) ≡ f a ++ f b) → (l bs : List ℕ) (i : ℕ) → i < length bs
-  → (l ++ f (take i bs)) ++ f (getD bs i 0 ∷ []) ≡ l ++ f (take (i + 1) bs)
+    → (l ++ f (take i bs)) ++ f (getD bs i 0 ∷ []) ≡ l ++ f (take (i + 1) bs)
 grows f hom l bs i h =
     append-assoc l (f (take i bs)) (f (getD bs i 0 ∷ []))
     ∙ ap (λ (x : List ℕ). l ++ x) (sym (hom (take i bs) (getD bs i 0 ∷ [])) ∙ ap f (sym (take-suc bs i 0 h) ∙ ap (λ (n : ℕ). take n bs) (sym (add-one i))))
@@ -60,6 +60,10 @@ take-most n k m l long e = go (leb n k) refl
     go : (t : Bool) → leb n k ≡ t → take (m - 0) l ≡ take n l
     go true p = let h : n ≤ k = leb-true n k p in let same : m - 0 ≡ n = omega arith in ap (λ (i : ℕ). take i l) same
     go false p = let h : k < n = leb-false n k p in take-all (m - 0) l (omega arith) ∙ sym (take-all n l (omega arith))
+
+pub written-fits : (l : List ℕ) → written l .count ≤ 64
+unfolding written
+written-fits l = min-le-right (length l) 64
 
 pub shown-written : (l : List ℕ) → length l ≤ 64 → shown (written l) ≡ l
 unfolding written

@@ -2,7 +2,7 @@
 use mathlib.Core.Path.{_≡_, refl, sym, ap, ap₂, _∙_}
 use mathlib.Core.Bool.{Bool, true, false, cond}
 use mathlib.Core.List.{List, [], _∷_, _++_, append-assoc, append-nil}
-use Prim.Native.Nat.{ℕ, zero, suc, _+_, _^_, _≤_, _<_, min}
+use Prim.Native.Nat.{ℕ, suc, _+_, _^_, _≤_, _<_, min}
 use native.Mathlib.Nat.{add-zero, zero-add}
 use native.Mathlib.Numerals.{add-one}
 use native.Mathlib.Omega.{arith}
@@ -16,7 +16,7 @@ use Rattle.lines.specs.Line.{isGood, badLine, answerOf}
 use Rattle.lines.specs.Input.{linesFrom, answerLine, answers, firstLine, doneLine, outputOf}
 use Rattle.lines.specs.Written.{written}
 use Rattle.lines.specs.Session.{freshReader, nextLine, held, kept, ended, fedBy, closingOf, shown, writtenFrom, writtenOf}
-use Rattle.lines.proofs.Texts.{shown-written}
+use Rattle.lines.proofs.Texts.{written-fits, shown-written}
 use Rattle.lines.proofs.Lengths.{answer-line-length, closing-length}
 
 -- a line of another length than 67 is bad, and so a line cut at 68 bytes is answered as the whole line
@@ -109,6 +109,13 @@ module _ (r : Reader) (b : ℕ) where
   fed-other : eqb b 10 ≡ false → fedBy r b ≡ record { reader = kept r b; text = written [] }
   unfolding fedBy
   fed-other = cond-false (eqb b 10) _ _
+
+  pub fed-fits : fedBy r b .text .count ≤ 64
+  fed-fits = go (eqb b 10) refl
+    where
+      go : (t : Bool) → eqb b 10 ≡ t → fedBy r b .text .count ≤ 64
+      go true p = rw (fed-newline p) (written-fits (answerLine (nextLine (r .lines)) (held r)))
+      go false p = rw (fed-other p) (written-fits [])
 
 -- the answers to the lines of what is left, and the closing line
 abbrev rest : List ℕ → List ℕ → ℕ → List ℕ

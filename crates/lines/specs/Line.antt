@@ -1,18 +1,15 @@
 -- What a line is answered.
 use mathlib.Core.Bool.{Bool, cond, _&&_, _||_}
-use mathlib.Core.List.{List, [], _∷_, _++_}
+use mathlib.Core.List.{List, _∷_, _++_}
 use Prim.Native.Nat.{ℕ}
 use lib.Dec.{eqb}
 use lib.ListN.{length, take, drop, getD}
 use Rattle.published.specs.Bytes.{fromBytes, toBytes}
-use Rattle.published.specs.Gift128.{pairsOf, encrypted, decrypted}
-use Rattle.published.specs.Rounds.{rounds}
+use Rattle.published.specs.Gift128.{encrypted, decrypted}
 use Rattle.published.specs.Packing.{word}
+use Rattle.gift128.specs.Calls.{afterOne}
 use Rattle.lines.specs.Hex.{allHex, bytesOf, hexOf}
 use Rattle.lines.specs.Decimal.{decimalOf}
-
-unfoldable pub afterOne : List ℕ → List ℕ → List ℕ
-afterOne key block = toBytes 16 (rounds 128 1 (take 1 (pairsOf key)) 0 (fromBytes block))
 
 -- E, D, R or P
 unfoldable pub isLetter : ℕ → Bool
@@ -28,6 +25,10 @@ blockText line = take 32 (drop 35 line)
 unfoldable pub isGood : List ℕ → Bool
 isGood line =
     eqb (length line) 67 && isLetter (getD line 0 0) && eqb (getD line 1 0) 32 && eqb (getD line 34 0) 32 && allHex (keyText line) && allHex (blockText line)
+
+-- such a line, of a key and a block of 16 bytes each
+unfoldable pub lineOf : ℕ → List ℕ → List ℕ → List ℕ
+lineOf c key block = c ∷ 32 ∷ hexOf key ++ 32 ∷ hexOf block
 
 -- four words, eight digits each, with a space between two
 unfoldable pub wordsText : ℕ → ℕ → ℕ → ℕ → List ℕ

@@ -11,6 +11,10 @@ ghost use Rattle.lines.specs.Line.{isLetter, isGood, keyText, blockText,
 ghost use Rattle.lines.specs.Input.{answerLine, firstLine, doneLine};
 ghost use Rattle.lines.specs.Written.{written};
 ghost use Rattle.lines.specs.Session.{freshReader, nextLine, held, kept, fedBy, closingOf};
+use gift128::decrypt_by_key;
+use gift128::encrypt_by_key;
+use gift128::one_round;
+use packing::packing;
 use primitives::State;
 
 // A text of up to 64 bytes.
@@ -63,17 +67,17 @@ fn push_decimal(t: Text, n: u64) -> Text
 {
     let d = (n % 10) as u8;
     if n < 10 {
-        return push(t, 48 + d);
+        return push(t, b'0' + d);
     }
     let r = push_decimal(t, n / 10);
-    push(r, 48 + d)
+    push(r, b'0' + d)
 }
 
 fn hex_digit(d: u8) -> u8
     requires { ⌜ d < 16 ⌝ }
     ensures { λ r. ⌜ r ≡ getD hexDigits d 0 ⌝ }
 {
-    if d < 10 { 48 + d } else { 87 + d }
+    if d < 10 { b'0' + d } else { d - 10 + b'a' }
 }
 
 fn push_byte(t: Text, b: u8) -> Text
@@ -100,17 +104,17 @@ fn push_hex(t: Text, bs: &[u8]) -> Text
 fn value(c: u8) -> u8
     ensures { λ r. ⌜ r ≡ valueOf c ⌝ }
 {
-    if c < 48 {
+    if c < b'0' {
         return 16;
     }
-    if c < 58 {
-        return c - 48;
+    if c <= b'9' {
+        return c - b'0';
     }
-    if c < 97 {
+    if c < b'a' {
         return 16;
     }
-    if c < 103 {
-        return c - 87;
+    if c <= b'f' {
+        return c - b'a' + 10;
     }
     16
 }
@@ -209,7 +213,19 @@ fn respond(letter: u8, key: &[u8], block: &mut [u8]) -> Text
     requires { ⌜ (length (now key) ≡ 16) × (length (now block) ≡ 16) ⌝ }
     ensures { λ r. ⌜ r ≡ written (response letter (now (key .entry)) (now (block .entry))) ⌝ }
 {
-    empty()
+    if letter == b'E' {
+        encrypt_by_key(key, block);
+        return push_hex(empty(), block);
+    }
+    if letter == b'D' {
+        decrypt_by_key(key, block);
+        return push_hex(empty(), block);
+    }
+    if letter == b'R' {
+        one_round(key, block);
+        return push_hex(empty(), block);
+    }
+    words_text(packing(block))
 }
 
 fn respond_to(line: &[u8]) -> Text

@@ -1,5 +1,5 @@
 -- `lines::push_decimal` ends, since a tenth of a number of two digits is less, and pushes the last digit after the digits of that tenth.
-use mathlib.Core.Path.{_≡_, sym, ap, _∙_}
+use mathlib.Core.Path.{sym, ap, _∙_}
 use mathlib.Core.List.{List, [], _∷_, _++_, append-assoc}
 use Prim.Native.Nat.{ℕ, _+_, _/_, _%_, _<_}
 use native.Mathlib.Omega.{arith}

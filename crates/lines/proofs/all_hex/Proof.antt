@@ -25,7 +25,7 @@ returns c =
     sym (s .loop .inv .1 ∙ no-more-hex text (s .loop .i) (c .before .before .before .loop-test .taken) (rw (c .before .value .ensures) at (c .if1 .taken)))
 
 loop-again : tie.Need-loop-again Inv-loop μ-loop
-loop-again c = 
+loop-again c =
     let s = c .before .before .before .before in
     let text : List ℕ = s .before .before .args .text .now in
     (omega arith, s .loop .inv .1 ∙ more-hex text (s .loop .i) (c .before .before .before .loop-test .taken) (rw (c .before .value .ensures) at (c .if1 .left)))

@@ -1,5 +1,5 @@
 -- `lines::bad_line` pushes its words and the number.
-use mathlib.Core.List.{[], _∷_}
+use mathlib.Core.List.{[]}
 use borrow.Author.Needs.{needs}
 use Rattle.lines.specs.Line.{badLine}
 use Rattle.lines.proofs.bad_line.Statement.{statement}

@@ -1,9 +1,7 @@
 -- `lines::closing` answers a line that has begun, and closes.
-use mathlib.Core.Path.{sym, ap, _∙_}
 use mathlib.Core.List.{[]}
 use borrow.Author.Tests.{eq-eqb, ne-eqb}
 use Rattle.lines.specs.Session.{closingOf}
-use Rattle.lines.specs.Written.{written}
 use Rattle.lines.proofs.closing.Statement.{statement}
 use Rattle.lines.proofs.closing.Tie as tie
 

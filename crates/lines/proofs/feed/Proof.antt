@@ -1,10 +1,5 @@
 -- `lines::feed` ends the line at a newline and keeps any other byte.
-use mathlib.Core.Path.{_≡_, refl, sym, ap, _∙_}
-use Prim.Native.Nat.{ℕ}
 use borrow.Author.Tests.{eq-eqb, ne-eqb}
-use Rattle.lines.specs.declared.Reader.{Reader}
-use Rattle.lines.specs.declared.Text.{Text}
-use Rattle.lines.specs.declared.Fed.{Fed}
 use Rattle.lines.specs.Session.{ended, fedBy}
 use Rattle.lines.proofs.feed.Statement.{statement}
 use Rattle.lines.proofs.feed.Tie as tie

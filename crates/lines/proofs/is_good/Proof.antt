@@ -1,10 +1,15 @@
 -- `lines::is_good` tries the parts of a line in the order of the definition.
 use mathlib.Core.Path.{sym, _∙_}
-use borrow.Author.Needs.{needs}
+use Prim.Native.Nat.{ℕ, _≤_}
 use borrow.Author.Tests.{eq-eqb, ne-eqb, not-true, not-false}
+use lib.Dec.{lit≤}
+use lib.ListN.{length}
 use Rattle.lines.specs.Line.{isGood}
 use Rattle.lines.proofs.is_good.Statement.{statement}
 use Rattle.lines.proofs.is_good.Tie as tie
+
+within : (c : tie.Else1) (n : ℕ) → n ≤ 67 → n ≤ length (c .before .before .args .line .now)
+within c n h = rw (c .if1 .left) h
 
 returns : tie.Need-returns
 unfolding isGood
@@ -53,5 +58,7 @@ returns-6 c =
 pub is-good-spec : {M : Type 1} → statement M
 is-good-spec =
     tie.close
-    (tie.spec returns (λ c. search needs) (λ c κs. tt) returns-2 (λ c. search needs) returns-3 (λ c. search needs) returns-4 (λ c. search needs) (λ c. search needs) (λ c. search needs)
-    (λ c κs. tt) returns-5 (λ c. search needs) (λ c. search needs) (λ c. search needs) (λ c κs. tt) returns-6)
+    (tie.spec returns (λ c. within (c .before) 1 (lit≤ tt)) (λ c κs. tt) returns-2 (λ c. within (c .before .before .before .before) 2 (lit≤ tt)) returns-3
+    (λ c. within (c .before .before .before .before .before .before) 35 (lit≤ tt)) returns-4 (λ c. lit≤ tt) (λ c. lit≤ tt)
+    (λ c. within (c .before .before .before .before .before .before .before) 34 (lit≤ tt)) (λ c κs. tt) returns-5 (λ c. lit≤ tt) (λ c. lit≤ tt)
+    (λ c. within (c .before .before .before .before .before .before .before .before .before .before) 67 (lit≤ tt)) (λ c κs. tt) returns-6)

@@ -21,10 +21,11 @@ loop-holds c = (omega arith, λ l e. rw append-nil e)
 
 loop-again : tie.Need-loop-again Inv-loop μ-loop
 loop-again c =
-    let s = c .before .before .before in
-    (omega arith,
-    λ l e. c .push .ensures (l ++ take (s .loop .i) (s .before .before .args .bs .now)) (s .loop .inv .1 l e)
-    ∙ ap written (grows (λ x. x) (λ a b. refl) l (s .before .before .args .bs .now) (s .loop .i) (c .before .before .loop-test .taken)))
+    let s = c .before .before .before in (
+      omega arith,
+      λ l e. c .push .ensures (l ++ take (s .loop .i) (s .before .before .args .bs .now)) (s .loop .inv .1 l e)
+          ∙ ap written (grows (λ x. x) (λ a b. refl) l (s .before .before .args .bs .now) (s .loop .i) (c .before .before .loop-test .taken)),
+    )
 
 returns : tie.Need-returns Inv-loop μ-loop
 returns c l e =

@@ -1,6 +1,6 @@
 -- `lines::push_done` pushes its word, the number and a newline.
 use mathlib.Core.Path.{ap, _∙_}
-use mathlib.Core.List.{[], _∷_, append-assoc}
+use mathlib.Core.List.{append-assoc}
 use borrow.Author.Needs.{needs}
 use Rattle.lines.specs.Input.{doneLine}
 use Rattle.lines.specs.Written.{written}

@@ -1,12 +1,12 @@
 -- `lines::sixteen_bytes` holds, at each turn, the bytes of the pairs passed.
-use mathlib.Core.Path.{_≡_, refl, sym, ap, ap₂, _∙_}
+use mathlib.Core.Path.{_≡_, refl, sym, ap₂, _∙_}
 use mathlib.Core.List.{List, [], _∷_, _++_}
 use Prim.Native.Nat.{ℕ, _≤_, _-_}
 use native.Mathlib.Numerals.{add-one}
 use native.Mathlib.Omega.{arith}
-use lib.ListN.{length, take, getD, length-set}
+use lib.ListN.{length, take, length-set}
 use lib.Seq.{take-suc, take-suc-set, take-all}
-use Rattle.lines.specs.Hex.{allHex, bytesOf}
+use Rattle.lines.specs.Hex.{bytesOf}
 use Rattle.lines.proofs.Numerals.{hex-at, byte-at, length-bytesOf}
 use Rattle.lines.proofs.sixteen_bytes.Statement.{statement}
 use Rattle.lines.proofs.sixteen_bytes.Tie as tie
@@ -30,13 +30,14 @@ loop-again : tie.Need-loop-again Inv-loop μ-loop
 loop-again c =
     let s = c .before .before .before .before in
     let text : List ℕ = s .before .before .args .text .now in
-    let i : ℕ = s .loop .i in
-    (omega arith,
-    length-set (s .loop .out) i (c .byte-of .result) ∙ s .loop .inv .1,
-    rw (add-one i)
-    (take-suc-set (s .loop .out) i (c .byte-of .result) (omega arith)
-    ∙ ap₂ (λ (x : List ℕ) (y : ℕ). x ++ (y ∷ [])) (s .loop .inv .2) (c .byte-of .ensures ∙ sym (byte-at text i (omega arith)))
-    ∙ sym (take-suc (bytesOf text) i 0 (omega (arith, length-bytesOf 16 text (s .before .before .pre .0))))))
+    let i : ℕ = s .loop .i in (
+      omega arith,
+      length-set (s .loop .out) i (c .byte-of .result) ∙ s .loop .inv .1,
+      rw (add-one i)
+          (take-suc-set (s .loop .out) i (c .byte-of .result) (omega arith)
+          ∙ ap₂ (λ (x : List ℕ) (y : ℕ). x ++ (y ∷ [])) (s .loop .inv .2) (c .byte-of .ensures ∙ sym (byte-at text i (omega arith)))
+          ∙ sym (take-suc (bytesOf text) i 0 (omega (arith, length-bytesOf 16 text (s .before .before .pre .0))))),
+    )
 
 returns : tie.Need-returns Inv-loop μ-loop
 returns c =
