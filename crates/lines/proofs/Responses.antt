@@ -8,7 +8,8 @@ use lib.ListN.{length}
 use Rattle.bits.proofs.Computed.{cond-true}
 use Rattle.published.specs.Bytes.{fromBytes}
 use Rattle.published.specs.Gift128.{encrypted, decrypted}
-use Rattle.gift128.specs.Calls.{Gives, keyCode, afterOne}
+use Rattle.primitives.specs.Answer.{Gives}
+use Rattle.gift128.specs.Calls.{keyCode, afterOne}
 use Rattle.gift128.proofs.Answers.{key-0}
 use Rattle.lines.specs.Hex.{hexOf}
 use Rattle.lines.specs.Line.{packedText, response}
