@@ -1,5 +1,5 @@
-// Four lanes that take turns on one cipher.
-use key_schedule::precompute_rkeys;
+// Four lanes that take turns on one cipher, by value: a call is given a bench and gives back the bench after it, with a number that is 0 if it was done.
+use gift128::Gift128;
 use packing::packing;
 use packing::unpacking;
 use primitives::State;
@@ -8,17 +8,16 @@ use quintuple::quintuple_round;
 ghost use mathlib.Core.Path.{_≡_};
 ghost use Prim.Native.Nat.{_<_};
 ghost use lib.ListN.{length};
-ghost use Rattle.key_schedule.specs.Expand.{expanded};
-ghost use Rattle.bench.specs.Record.{soundLane, opened, advanced, served, idleWith};
+ghost use Rattle.bench.specs.Record.{soundLane, idleWith, opened, advanced, served};
 ghost use Rattle.bench.specs.Turning.{laneCount, after, seek, chosen, turned, turnedBy, servedBy};
 ghost use Rattle.bench.specs.Calls.{freshBench, allSound, soundBench, put, idled, openOf, turnOf, takeOf, takenBytes, closeOf};
 
-// How many lanes a bench has.
+// How many lanes a bench has, and the last of them.
 pub const LANES: usize = 4;
 
 const LAST: usize = LANES - 1;
 
-// A lane: phase 0 idle, 1 running, 2 finished; direction 0 encrypts, 1 decrypts; count is of its own turns.
+// Phase: 0 idle, 1 running, 2 finished. Direction: 0 encrypts, 1 decrypts. The count is of the lane's own turns.
 #[repr(C)]
 pub struct Lane {
     pub phase: u8,
@@ -28,12 +27,14 @@ pub struct Lane {
     pub state: State,
 }
 
+// The lanes, and the one last served.
 #[repr(C)]
 pub struct Bench {
     pub lanes: [Lane; LANES],
     pub last: u32,
 }
 
+// What the four calls give back.
 #[repr(C)]
 pub struct Opened {
     pub code: u32,
@@ -58,6 +59,8 @@ pub struct Closed {
     pub code: u32,
     pub bench: Bench,
 }
+
+// ---- soundness
 
 fn sound_lane(l: Lane) -> bool
     ensures { λ r. ⌜ r ≡ soundLane l ⌝ }
@@ -102,6 +105,8 @@ fn sound(b: Bench) -> bool
     false
 }
 
+// ---- turns
+
 // The lane after lane i in cyclic order.
 fn after(i: usize) -> usize
     ensures { λ r. ⌜ r ≡ after i ⌝ }
@@ -112,7 +117,7 @@ fn after(i: usize) -> usize
     0
 }
 
-// The first running lane in cyclic order from one on, or LANES.
+// The first running lane in cyclic order from one on, or LANES where none runs.
 fn seek(lanes: [Lane; LANES], from: usize) -> usize
     requires { ⌜ from < laneCount ⌝ }
     ensures { λ r. ⌜ r ≡ seek laneCount lanes from ⌝ }
@@ -130,7 +135,7 @@ fn seek(lanes: [Lane; LANES], from: usize) -> usize
     LANES
 }
 
-// One quintuple round more, over the words that start at twice the offset.
+// One quintuple round more, over the words that start at twice its offset.
 fn advanced(l: Lane) -> State
     requires { ⌜ l .count < 8 ⌝ }
     ensures { λ r. ⌜ r ≡ advanced l ⌝ }
@@ -147,7 +152,7 @@ fn advanced(l: Lane) -> State
     inv_quintuple_round(state, &words[from..], left)
 }
 
-// A turn of its own.
+// A turn of the lane's own. (A count of 8 or more, which no sound running record has, stays as it is.)
 fn served(l: Lane) -> Lane
     ensures { λ r. ⌜ r ≡ served l ⌝ }
 {
@@ -175,7 +180,7 @@ fn served(l: Lane) -> Lane
     }
 }
 
-// The lane that a turn serves, or LANES where none runs, and the bench after the turn.
+// One turn: the lane that it serves, or LANES where none runs, and the bench after it.
 struct One {
     lane: usize,
     bench: Bench,
@@ -195,7 +200,7 @@ fn turn_once(b: Bench) -> One
     One { lane: n, bench: b }
 }
 
-// The turns made, and the bench after them.
+// Many turns: how many were made, and the bench after them.
 struct Many {
     made: u32,
     bench: Bench,
@@ -218,6 +223,8 @@ fn turns(b: Bench, asked: u32) -> Many
     Many { made, bench }
 }
 
+// ---- records put into lanes
+
 fn put(b: Bench, i: usize, l: Lane) -> Bench
     requires { ⌜ i < laneCount ⌝ }
     ensures { λ r. ⌜ r ≡ put b i l ⌝ }
@@ -227,7 +234,6 @@ fn put(b: Bench, i: usize, l: Lane) -> Bench
     bench
 }
 
-// An idle record with the round words that it is given.
 fn idle_with(words: [u32; 80]) -> Lane
     ensures { λ r. ⌜ r ≡ idleWith words ⌝ }
 {
@@ -246,6 +252,7 @@ fn idle_with(words: [u32; 80]) -> Lane
     }
 }
 
+// The round words stay until the next opening.
 fn idled(b: Bench, i: usize) -> Bench
     requires { ⌜ i < laneCount ⌝ }
     ensures { λ r. ⌜ r ≡ idled b i ⌝ }
@@ -255,6 +262,26 @@ fn idled(b: Bench, i: usize) -> Bench
     put(b, i, idle_with(words))
 }
 
+fn opened_lane(direction: u8, key: &[u8], block: &[u8]) -> Lane
+    requires { ⌜ (length (now key) ≡ 16) × (length (now block) ≡ 16) ⌝ }
+    ensures { λ r. ⌜ r ≡ opened direction (now (key .entry)) (now (block .entry)) ⌝ }
+{
+    let made = Gift128::new(key);
+    let cipher = made.cipher;
+    let words = cipher.k;
+    let state = packing(block);
+    Lane {
+        phase: 1,
+        direction,
+        count: 0,
+        words,
+        state,
+    }
+}
+
+// ---- the calls
+
+// All idle, all zero, the last lane the one last served.
 pub fn fresh() -> Bench
     ensures { λ r. ⌜ r ≡ freshBench ⌝ }
 {
@@ -266,31 +293,7 @@ pub fn fresh() -> Bench
     }
 }
 
-// The eighty words of a key.
-fn expanded(key: &[u8]) -> [u32; 80]
-    requires { ⌜ length (now key) ≡ 16 ⌝ }
-    ensures { λ r. ⌜ r ≡ expanded (now (key .entry)) ⌝ }
-{
-    let mut words = [0u32; 80];
-    precompute_rkeys(key, &mut words);
-    words
-}
-
-fn opened_lane(direction: u8, key: &[u8], block: &[u8]) -> Lane
-    requires { ⌜ (length (now key) ≡ 16) × (length (now block) ≡ 16) ⌝ }
-    ensures { λ r. ⌜ r ≡ opened direction (now (key .entry)) (now (block .entry)) ⌝ }
-{
-    let words = expanded(key);
-    let state = packing(block);
-    Lane {
-        phase: 1,
-        direction,
-        count: 0,
-        words,
-        state,
-    }
-}
-
+// Refusals: 10, 5, 6, 9, 1, 2.
 pub fn open_lane(b: Bench, lane: u32, direction: u32, key: &[u8], block: &[u8]) -> Opened
     ensures { λ r. ⌜ r ≡ openOf b lane direction (now (key .entry)) (now (block .entry)) ⌝ }
 {
@@ -314,10 +317,14 @@ pub fn open_lane(b: Bench, lane: u32, direction: u32, key: &[u8], block: &[u8]) 
     if block.len() != 16 {
         return Opened { code: 2, bench: b };
     }
-    let bench = put(b, i, opened_lane(direction as u8, key, block));
-    Opened { code: 0, bench }
+    let opened = put(b, i, opened_lane(direction as u8, key, block));
+    Opened {
+        code: 0,
+        bench: opened,
+    }
 }
 
+// Refusals: 10, 8.
 pub fn turn(b: Bench, asked: u32) -> Turned
     ensures { λ r. ⌜ r ≡ turnOf b asked ⌝ }
 {
@@ -344,6 +351,7 @@ pub fn turn(b: Bench, asked: u32) -> Turned
     }
 }
 
+// Refusals: 10, 5, 7, 2.
 pub fn take(b: Bench, lane: u32, out: &mut [u8]) -> Taken
     ensures { λ r. ⌜ (r ≡ takeOf b lane (now (out .entry))) × (now (out .exit) ≡ takenBytes b lane (now (out .entry))) ⌝ }
 {
@@ -363,10 +371,14 @@ pub fn take(b: Bench, lane: u32, out: &mut [u8]) -> Taken
     }
     let state = l.state;
     unpacking(state, out);
-    let bench = idled(b, i);
-    Taken { code: 0, bench }
+    let emptied = idled(b, i);
+    Taken {
+        code: 0,
+        bench: emptied,
+    }
 }
 
+// Refusals: 10, 5.
 pub fn close(b: Bench, lane: u32) -> Closed
     ensures { λ r. ⌜ r ≡ closeOf b lane ⌝ }
 {
@@ -377,6 +389,9 @@ pub fn close(b: Bench, lane: u32) -> Closed
     if LANES <= i {
         return Closed { code: 5, bench: b };
     }
-    let bench = idled(b, i);
-    Closed { code: 0, bench }
+    let closed = idled(b, i);
+    Closed {
+        code: 0,
+        bench: closed,
+    }
 }

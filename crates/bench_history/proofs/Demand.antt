@@ -254,6 +254,13 @@ held cs n busy = ⊎-elim (λ h. absurd (h .0 (fresh-idle n))) under (split n cs
           kept = h .kept;
         }
 
+-- so that, whatever the calls, a lane is idle or stands where the accepted opening that holds it says
+pub none-escapes : (cs : List Call) → ((o : Opening) → calls o ≡ cs → Bytes (o .block)) → (n : ℕ) → laneAt (run freshBench cs .lanes) n .phase ≢ idle
+    → (o : Opening) × (calls o ≡ cs) × (o .lane ≡ n) × Stands o
+none-escapes cs bytes n busy =
+    let h : Held cs n = held cs n busy in
+    (h .by, h .whole, h .lane, stands (h .by) (h .accepted) (h .kept) (bytes (h .by) (h .whole)))
+
 -- ---- sound records that no call made are served as well, with the words that they hold
 
 module _ (b : Bench) (ok : soundBench b ≡ true) (n : ℕ) (cs : List Call) where

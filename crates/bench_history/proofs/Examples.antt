@@ -1,7 +1,7 @@
 -- Small histories, computed: document 01's cases of the bench, and one of each refusal. (The cipher stays shut.)
 use mathlib.Core.Path.{_≡_, refl}
 use mathlib.Core.List.{List, [], _∷_, _++_, map}
-use Prim.Native.Nat.{ℕ}
+use Prim.Native.Nat.{ℕ, _*_}
 use lib.ListN.{replicate}
 use Rattle.bench.specs.declared.Bench.{Bench}
 use Rattle.bench.specs.Record.{soundCount, soundLane, idleWith, opened, served}
@@ -38,7 +38,8 @@ astray : Bench
 astray = record { lanes = freshBench .lanes; last = 4 }
 
 examples :
-    (phases (four ++ turning 31 ∷ []) ≡ 2 ∷ 2 ∷ 2 ∷ 1 ∷ [])
+    (laneCount * 8 ≡ 32)
+    × (phases (four ++ turning 31 ∷ []) ≡ 2 ∷ 2 ∷ 2 ∷ 1 ∷ [])
     × (counts (four ++ turning 31 ∷ []) ≡ 8 ∷ 8 ∷ 8 ∷ 7 ∷ [])
     × (phases (four ++ turning 32 ∷ []) ≡ 2 ∷ 2 ∷ 2 ∷ 2 ∷ [])
     × (phases (four ++ turning 7 ∷ turning 0 ∷ turning 24 ∷ []) ≡ 2 ∷ 2 ∷ 2 ∷ 1 ∷ [])
@@ -55,4 +56,4 @@ examples :
 unfolding
     bytes encrypts decrypts four phases counts numbers astray soundCount soundLane idleWith opened served laneCount runs after seek chosen anyRuns turned turnedBy servedBy lacks total
     freshBench allSound soundBench put idled openCode openOf turnCode turnOf takeCode takeOf closeCode closeOf codeOf leaves tells serves run log
-examples = (refl, refl, refl, refl, refl, refl, refl, refl, refl, refl, refl, refl, refl, refl)
+examples = (refl, refl, refl, refl, refl, refl, refl, refl, refl, refl, refl, refl, refl, refl, refl)

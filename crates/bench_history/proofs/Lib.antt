@@ -6,4 +6,5 @@ pub mod Waiting
 pub mod Quintuples
 pub mod Effects
 pub mod Demand
+pub mod OneOutcome
 mod Examples

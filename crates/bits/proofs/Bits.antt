@@ -9,7 +9,7 @@ use borrow.Author.Tests.{leb-true, leb-false}
 use lib.Dec.{leb, lit<}
 use lib.Pow.{pow-pos}
 use Rattle.bits.specs.Digit.{digit, number, isOne, one, bit, ofBits, _⊕_}
-use Rattle.bits.proofs.Digits.{number-cong, number-lt, number-digit, digit-lt, digit-number, digit-top, digit-below, digit-out, digit-shr, digit-shl, digit-shl-low, digit-mod, digit-digit}
+use Rattle.bits.proofs.Digits.{number-cong, number-lt, number-digit, digit-lt, digit-number, digit-below, digit-out, digit-shr, digit-shl, digit-shl-low, digit-mod, digit-digit}
 
 two : zero < 2
 two = zero-lt-suc 1

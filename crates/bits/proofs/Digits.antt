@@ -1,9 +1,8 @@
 -- The laws of digits, once for every base: digits and numbers are each other's inverse, and what shifts and remainders do to a digit.
 use mathlib.Core.Path.{_≡_, refl, sym, ap, ap₂, _∙_}
 use mathlib.Core.Logic.{⊎-elim}
-use Prim.Native.Nat.{ℕ, zero, suc, _+_, _*_, _/_, _%_, _^_, _≤_, _<_, suc-le-suc}
-use native.Mathlib.Nat.{le-refl, le-of-lt, le-dest, le-step, le-of-suc-le-suc, not-suc-le-zero, eq-or-lt-of-le, lt-of-lt-of-le, one-le-pow, pow-le-pow-right, pow-zero, pow-suc, pow-succ', mul-zero, mul-suc, mul-one, mul-comm, mul-assoc, add-comm, add-zero, zero-mod, mod-one, mod-lt, mod-eq-of-lt, div-eq-of-lt, div-add-mod', div-div-eq-div-mul, mul-add-div-right, mul-add-mod-self-right, mul-div-cancel, mul-mod-left}
-use native.Mathlib.Omega.{arith}
+use Prim.Native.Nat.{ℕ, zero, suc, _+_, _*_, _/_, _%_, _^_, _≤_, _<_}
+use native.Mathlib.Nat.{le-refl, le-dest, le-step, le-of-suc-le-suc, not-suc-le-zero, eq-or-lt-of-le, lt-of-lt-of-le, one-le-pow, pow-le-pow-right, pow-zero, pow-suc, pow-succ', mul-zero, mul-suc, mul-assoc, add-comm, add-zero, zero-mod, mod-one, mod-lt, mod-eq-of-lt, div-eq-of-lt, div-add-mod', div-div-eq-div-mul, mul-add-div-right, mul-add-mod-self-right, mul-div-cancel}
 use lib.Pow.{pow-add}
 use lib.Arith.{digits-lt, digits-div, mod-mul}
 use Rattle.bits.specs.Digit.{digit, number}

@@ -1,26 +1,11 @@
--- The numbers of the calls, line by line, and that a contract of this crate admits no second outcome.
-use mathlib.Core.Path.{_≡_, refl, sym, ap, _∙_}
-use mathlib.Core.Bool.{Bool, cond, true, false}
+-- The numbers of the calls, line by line, in their order.
+use mathlib.Core.Path.{_≡_, _∙_}
 use mathlib.Core.List.{List}
-use Prim.Native.Nat.{ℕ, zero, suc, _%_}
+use Prim.Native.Nat.{ℕ, _%_}
 use borrow.Author.Tests.{eq-eqb, ne-eqb}
-use lib.Dec.{eqb, eqb·suc-zero}
 use lib.ListN.{length}
 use Rattle.bits.proofs.Computed.{cond-true, cond-false}
-use Rattle.gift128.specs.Calls.{Gives, blockCode, keyCode, wordsCode, manyCode}
-
--- a refusal, and a call that is done
-pub refuses : (k number : ℕ) (new old : List ℕ) → number ≡ suc k → Gives number new old (suc k) old
-refuses k number new old e = record { is = sym e; leaves = sym (cond-false (eqb number 0) new old (ap (λ (n : ℕ). eqb n 0) e ∙ eqb·suc-zero k)) }
-
-pub done : (number : ℕ) (new old e : List ℕ) → number ≡ 0 → e ≡ new → Gives number new old 0 e
-done number new old e n left = record { is = sym n; leaves = left ∙ sym (cond-true (eqb number 0) new old (ap (λ (m : ℕ). eqb m 0) n)) }
-
--- no second outcome, whatever the call: every contract of a call that is lent a buffer is a `Gives`
-pub one-outcome : {number : ℕ} {new old : List ℕ} {r r′ : ℕ} {e e′ : List ℕ} → Gives number new old r e → Gives number new old r′ e′ → (r ≡ r′) × (e ≡ e′)
-one-outcome g h = (g .is ∙ sym (h .is), g .leaves ∙ sym (h .leaves))
-
--- ---- the refusals in their order
+use Rattle.gift128.specs.Calls.{blockCode, keyCode, wordsCode, manyCode}
 
 module _ (block : List ℕ) where
   pub block-2 : (length block ≡ 16 → ⊥) → blockCode block ≡ 2

@@ -13,14 +13,13 @@ use Rattle.published.specs.Gift128.{pairsOf, encrypted, decrypted}
 use Rattle.published.proofs.Reading.{Bytes}
 use Rattle.published.proofs.Gift128.{block-lt}
 use Rattle.primitives.specs.Packed.{blockOf, stateOf}
-use Rattle.primitives.specs.Arranged.{pairsFrom}
 use Rattle.primitives.specs.declared.State.{State}
 use Rattle.primitives.proofs.Blocks.{blockOf-stateOf}
 use Rattle.primitives.proofs.Pairs.{first-pair}
 use Rattle.quintuple.specs.Quintuple.{firstRound}
 use Rattle.packing.specs.Packing.{packed, unpacked}
 use Rattle.packing.proofs.Inverse.{packed-block, unpacked-block}
-use Rattle.key_schedule.specs.Expand.{expandCode, expanded, expandedInto}
+use Rattle.key_schedule.specs.Expand.{expandCode, expanded}
 use Rattle.key_schedule.proofs.Expanded.{pairs-of-expanded, length-expanded}
 use Rattle.gift128.specs.Calls.{encryptedBy, decryptedBy, newWords}
 
@@ -43,13 +42,13 @@ unfolding decryptedBy decrypted
 decrypted-key key block = ap (λ (ps : List Pair). toBytes 16 (unrounds 128 1 ps 0 (fromBytes block))) (pairs-of-expanded key)
 
 -- eighty words lent to expansion by a good key become the key's; by a bad one they stay
-pub filled : (key ws : List ℕ) → length key ≡ 16 → length ws ≡ 80 → expandedInto key ws ≡ expanded key
-unfolding expandedInto expandCode
+pub filled : (key ws : List ℕ) → length key ≡ 16 → length ws ≡ 80 → cond (eqb (expandCode key ws) 0) (expanded key) ws ≡ expanded key
+unfolding expandCode
 filled key ws k w =
     cond-true _ _ _ (ap (λ (n : ℕ). eqb n 0) (cond-true _ _ _ (eq-eqb (length key) 16 k) ∙ cond-true _ _ _ (eq-eqb (length ws) 80 w)))
 
-pub new-words : (key : List ℕ) → expandedInto key (replicate 80 0) ≡ newWords key
-unfolding expandedInto expandCode newWords
+pub new-words : (key : List ℕ) → cond (eqb (expandCode key (replicate 80 0)) 0) (expanded key) (replicate 80 0) ≡ newWords key
+unfolding expandCode newWords
 new-words key = go (eqb (length key) 16)
   where
     go : (b : Bool) → cond (eqb (cond b 0 1) 0) (expanded key) (replicate 80 0) ≡ cond b (expanded key) (replicate 80 0)

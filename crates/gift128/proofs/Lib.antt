@@ -3,3 +3,4 @@ pub mod Answers
 pub mod Blocks
 pub mod Many
 pub mod RoundTrip
+pub mod OneOutcome

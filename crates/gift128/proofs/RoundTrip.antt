@@ -1,7 +1,7 @@
 -- Encrypting then decrypting gives the block back, and the other way round: by every eighty words, and so by every key.
 use mathlib.Core.Path.{_≡_, sym, ap, _∙_}
 use mathlib.Core.List.{List}
-use Prim.Native.Nat.{ℕ, _^_, _<_}
+use Prim.Native.Nat.{ℕ}
 use lib.ListN.{length}
 use Rattle.published.specs.Bytes.{fromBytes, toBytes}
 use Rattle.published.specs.Rounds.{Pair, rounds, unrounds}

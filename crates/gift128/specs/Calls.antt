@@ -1,6 +1,5 @@
 -- What each call answers: its number, by its refusals in document 01's order, and what then stands in the buffer that was lent to it.
-use mathlib.Core.Path.{_≡_}
-use mathlib.Core.Bool.{Bool, cond}
+use mathlib.Core.Bool.{cond}
 use mathlib.Core.List.{List, [], _++_}
 use Prim.Native.Nat.{ℕ, zero, suc, _/_, _%_}
 use lib.Dec.{eqb}
@@ -10,12 +9,6 @@ use Rattle.published.specs.Rounds.{rounds, unrounds}
 use Rattle.published.specs.Gift128.{pairsOf}
 use Rattle.primitives.specs.Arranged.{pairsFrom}
 use Rattle.key_schedule.specs.Expand.{expanded}
-
--- One outcome of a call that is lent a buffer: the number r is the call's, and e, what stands in the buffer at exit, is what was to be
--- written there where the number is 0; after a refusal it is what stood there before.
-pub record Gives (number : ℕ) (new old : List ℕ) (r : ℕ) (e : List ℕ) : Type 0 where
-  pub is : r ≡ number
-  pub leaves : e ≡ cond (eqb number 0) new old
 
 -- the numbers: one block by a `Gift128`, by a key, by round words; many blocks by a key
 unfoldable pub blockCode : List ℕ → ℕ

@@ -7,7 +7,8 @@ ghost use Rattle.published.specs.Rounds.{rounds, unrounds};
 ghost use Rattle.published.specs.Gift128.{encrypted, decrypted};
 ghost use Rattle.primitives.specs.Packed.{blockOf, stateOf};
 ghost use Rattle.primitives.specs.Arranged.{pairsFrom};
-ghost use Rattle.gift128.specs.Calls.{Gives, blockCode, keyCode, wordsCode, manyCode, newCode, newWords};
+ghost use Rattle.primitives.specs.Answer.{Gives};
+ghost use Rattle.gift128.specs.Calls.{blockCode, keyCode, wordsCode, manyCode, newCode, newWords};
 ghost use Rattle.gift128.specs.Calls.{encryptedBy, decryptedBy, afterOne, allBlocks};
 use key_schedule::precompute_rkeys;
 use packing::packing;
@@ -108,8 +109,8 @@ fn encrypt_in_place(rkey: &[u32], block: &mut [u8])
     ensures { λ r. ⌜ now (block .exit) ≡ encryptedBy (now (rkey .entry)) (now (block .entry)) ⌝ }
 {
     let s = packing(block);
-    let t = encrypt_state(s, rkey);
-    unpacking(t, block);
+    let sealed = encrypt_state(s, rkey);
+    unpacking(sealed, block);
 }
 
 // And from one buffer to another.
@@ -120,8 +121,8 @@ fn encrypt_into(rkey: &[u32], input: &[u8], output: &mut [u8])
     ensures { λ r. ⌜ now (output .exit) ≡ encryptedBy (now (rkey .entry)) (now (input .entry)) ⌝ }
 {
     let s = packing(input);
-    let t = encrypt_state(s, rkey);
-    unpacking(t, output);
+    let sealed = encrypt_state(s, rkey);
+    unpacking(sealed, output);
 }
 
 // One block by round words, any eighty. Refusals: 4, 2.
@@ -161,8 +162,8 @@ fn decrypt_in_place(rkey: &[u32], block: &mut [u8])
     ensures { λ r. ⌜ now (block .exit) ≡ decryptedBy (now (rkey .entry)) (now (block .entry)) ⌝ }
 {
     let s = packing(block);
-    let t = decrypt_state(s, rkey);
-    unpacking(t, block);
+    let opened = decrypt_state(s, rkey);
+    unpacking(opened, block);
 }
 
 // And from one buffer to another.
@@ -173,8 +174,8 @@ fn decrypt_into(rkey: &[u32], input: &[u8], output: &mut [u8])
     ensures { λ r. ⌜ now (output .exit) ≡ decryptedBy (now (rkey .entry)) (now (input .entry)) ⌝ }
 {
     let s = packing(input);
-    let t = decrypt_state(s, rkey);
-    unpacking(t, output);
+    let opened = decrypt_state(s, rkey);
+    unpacking(opened, output);
 }
 
 // One block by round words, any eighty. Refusals: 4, 2.
@@ -220,8 +221,8 @@ pub fn one_round(key: &[u8], block: &mut [u8]) -> u32
     let mut rkey = [0u32; 80];
     precompute_rkeys(key, &mut rkey);
     let s = packing(block);
-    let t = first_round(s, &rkey);
-    unpacking(t, block);
+    let once = first_round(s, &rkey);
+    unpacking(once, block);
     0
 }
 

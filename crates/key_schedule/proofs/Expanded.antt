@@ -1,60 +1,21 @@
 -- The eighty words of a key: that they stand for the published U, V of all forty rounds, how many they are, that each has 32 bits, and the tens that they are made of.
-use mathlib.Core.Path.{_≡_, refl, sym, ap, ap₂, _∙_}
-use mathlib.Core.List.{List, [], _∷_, _++_}
-use Prim.Native.Nat.{ℕ, zero, suc, _*_, _^_, _<_, suc-le-suc}
-use native.Mathlib.Omega.{arith}
+use mathlib.Core.Path.{_≡_, sym, ap, ap₂, _∙_}
+use mathlib.Core.List.{List, _++_}
+use Prim.Native.Nat.{ℕ, zero, suc, _*_, _^_, _<_}
 use lib.Dec.{lit<}
 use lib.ListN.{length, getD, take}
 use Rattle.published.specs.Bytes.{fromBytes}
-use Rattle.published.specs.Rounds.{Pair}
 use Rattle.published.specs.Key.{Key, keyOf, update, pairs}
 use Rattle.published.specs.Gift128.{pairOf, pairsOf}
 use Rattle.published.proofs.Gift128.{length-pairs}
 use Rattle.published.proofs.Reading.{Bytes}
-use Rattle.primitives.specs.Arranged.{next, wordsFrom, pairsFrom}
-use Rattle.primitives.proofs.Arrangements.{arranged-lt, stands-arranged}
+use Rattle.primitives.specs.Arranged.{pairsFrom}
+use Rattle.primitives.proofs.Pairs.{Fit, length-words, words-lt, pairs-words}
 use Rattle.key_schedule.specs.declared.Ten.{Ten}
 use Rattle.key_schedule.specs.Tens.{firstWords, fiveRounds, fiveLater, wordsOf, following, grown}
 use Rattle.key_schedule.specs.Expand.{expanded}
 use Rattle.key_schedule.proofs.KeyState.{Sound, sound-keyOf, sound-update, u-lt, v-lt, fourOf, four-later, tens-of}
 use Rattle.key_schedule.proofs.KeyBytes.{first-words-are}
-
--- ---- words of any pairs
-
-pub length-words : (k : ℕ) (ps : List Pair) → length (wordsFrom k ps) ≡ 2 * length ps
-unfolding wordsFrom
-length-words k [] = refl
-length-words k (p ∷ ps) = omega (arith, length-words (next k) ps)
-
-pub words-lt : (k : ℕ) (ps : List Pair) (i : ℕ) → getD (wordsFrom k ps) i 0 < 2 ^ 32
-unfolding wordsFrom
-words-lt k [] i = lit< tt
-words-lt k (p ∷ ps) zero = arranged-lt (suc k) (p .v)
-words-lt k (p ∷ ps) (suc zero) = arranged-lt (suc k) (p .u)
-words-lt k (p ∷ ps) (suc (suc i)) = words-lt (next k) ps i
-
--- pairs of 32 bits each
-abbrev pub Fit : List Pair → Type 0
-Fit [] = Unit {0}
-Fit (p ∷ ps) = (p .u < 2 ^ 32) × (p .v < 2 ^ 32) × Fit ps
-
-next-lt : (k : ℕ) → k < 5 → next k < 5
-next-lt zero h = lit< tt
-next-lt (suc zero) h = lit< tt
-next-lt (suc (suc zero)) h = lit< tt
-next-lt (suc (suc (suc zero))) h = lit< tt
-next-lt (suc (suc (suc (suc k)))) h = lit< tt
-
--- what is kept stands for what it was made of
-pub pairs-words : (k : ℕ) (ps : List Pair) → k < 5 → Fit ps → pairsFrom k (wordsFrom k ps) ≡ ps
-unfolding wordsFrom pairsFrom
-pairs-words k [] h f = refl
-pairs-words k (p ∷ ps) h f =
-    ap₂ (λ (q : Pair) (qs : List Pair). q ∷ qs)
-    (λ i. record { u = stands-arranged (suc k) (p .u) (suc-le-suc h) (f .0) i; v = stands-arranged (suc k) (p .v) (suc-le-suc h) (f .1) i })
-    (pairs-words (next k) ps (next-lt k h) (f .2))
-
--- ---- of a key, whatever its bytes
 
 fit-pairs : (r : ℕ) (k : Key) → Sound k → Fit (pairs pairOf r k)
 unfolding pairs

@@ -1,4 +1,4 @@
--- The eighty round words of a key, and what expansion into lent words answers and leaves there.
+-- The eighty round words of a key, and the number that expansion into lent words answers.
 use mathlib.Core.Bool.{cond}
 use mathlib.Core.List.{List}
 use Prim.Native.Nat.{ℕ}
@@ -14,7 +14,3 @@ expandCode key ws = cond (eqb (length key) 16) (cond (eqb (length ws) 80) 0 4) 1
 -- the published V and U of all forty rounds, each kept in its round's arrangement
 unfoldable pub expanded : List ℕ → List ℕ
 expanded key = wordsFrom 0 (pairsOf key)
-
--- a refusal changes nothing
-unfoldable pub expandedInto : List ℕ → List ℕ → List ℕ
-expandedInto key ws = cond (eqb (expandCode key ws) 0) (expanded key) ws

@@ -9,7 +9,8 @@ ghost use Rattle.primitives.specs.Words.{permuted};
 ghost use Rattle.primitives.specs.Arranged.{arranged};
 ghost use Rattle.key_schedule.specs.Update.{updated, later, tripled};
 ghost use Rattle.key_schedule.specs.Tens.{firstWords, fiveRounds, fiveLater, tenLater, wordsOf, tenOf, grown};
-ghost use Rattle.key_schedule.specs.Expand.{expandCode, expanded, expandedInto};
+ghost use Rattle.primitives.specs.Answer.{Gives};
+ghost use Rattle.key_schedule.specs.Expand.{expandCode, expanded};
 
 fn rearrange_rkey_0(x: u32) -> u32
     ensures { λ r. ⌜ r ≡ arranged 1 x ⌝ }
@@ -289,7 +290,7 @@ fn expand(key: &[u8], rkey: &mut [u32])
 }
 
 pub fn precompute_rkeys(key: &[u8], rkey: &mut [u32]) -> u32
-    ensures { λ r. ⌜ (r ≡ expandCode (now (key .entry)) (now (rkey .entry))) × (now (rkey .exit) ≡ expandedInto (now (key .entry)) (now (rkey .entry))) ⌝ }
+    ensures { λ r. ⌜ Gives (expandCode (now (key .entry)) (now (rkey .entry))) (expanded (now (key .entry))) (now (rkey .entry)) r (now (rkey .exit)) ⌝ }
 {
     if key.len() != 16 {
         return 1;

@@ -1,12 +1,11 @@
 -- The arrangements: each is a permutation of the 32 places, five rounds in all is in place again, and a word and what it stands for make each other.
-use mathlib.Core.Path.{_≡_, refl, sym, ap, ap₂, _∙_}
-use mathlib.Core.Bool.{Bool, _&&_}
+use mathlib.Core.Path.{_≡_, _∙_}
+use mathlib.Core.Bool.{Bool}
 use Prim.Native.Nat.{ℕ, _-_, _^_, _<_}
 use native.Mathlib.Nat.{lt-of-le-of-lt, sub-le}
 use lib.Dec.{T, eqb, eqb→eq, ltb, ltb→lt, lit<}
 use Rattle.bits.proofs.Computed.{below, at}
 use Rattle.published.specs.Rounds.{P}
-use Rattle.primitives.specs.Words.{permuted}
 use Rattle.primitives.specs.Arranged.{N, nibbleAt, arranged, stands}
 use Rattle.primitives.proofs.Moves.{permuted-lt, permuted-id, permuted-then}
 

@@ -1,10 +1,10 @@
 -- Four words and the block that they stand for: each makes the other, on all 128 bits.
-use mathlib.Core.Path.{_≡_, refl, sym, ap, _∙_}
+use mathlib.Core.Path.{_≡_, refl, ap, _∙_}
 use Prim.Native.Nat.{ℕ, zero, suc, _+_, _*_, _/_, _%_, _^_, _<_}
 use native.Mathlib.Nat.{div-add-mod, le-of-suc-le-suc, not-suc-le-zero}
 use native.Mathlib.Omega.{arith}
-use Rattle.bits.specs.Digit.{bit, ofBits}
-use Rattle.bits.proofs.Bits.{bit-ofBits, bit-ext, ofBits-bit, ofBits-cong, ofBits-lt}
+use Rattle.bits.specs.Digit.{bit}
+use Rattle.bits.proofs.Bits.{bit-ofBits, bit-ext, ofBits-lt}
 use Rattle.published.specs.Packing.{word}
 use Rattle.primitives.specs.Packed.{wordOf, blockOf, stateOf}
 use Rattle.primitives.specs.declared.State.{State}

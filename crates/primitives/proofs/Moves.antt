@@ -1,10 +1,10 @@
 -- Words whose bits move: how moves compose, and the computed test that shows an expression to be a move.
-use mathlib.Core.Path.{_≡_, refl, sym, ap, _∙_}
+use mathlib.Core.Path.{_≡_, ap, _∙_}
 use mathlib.Core.Bool.{Bool, _&&_}
-use mathlib.Core.List.{List, [], _∷_}
-use Prim.Native.Nat.{ℕ, _+_, _^_, _<_}
+use mathlib.Core.List.{[], _∷_}
+use Prim.Native.Nat.{ℕ, _^_, _<_}
 use lib.Dec.{T}
-use Rattle.bits.specs.Digit.{bit, ofBits}
+use Rattle.bits.specs.Digit.{bit}
 use Rattle.bits.proofs.Bits.{bit-ofBits, ofBits-bit, ofBits-cong, ofBits-lt}
 use Rattle.bits.proofs.Reflect.{W, var, lit, and, or, shr, shl, atom, value, sized, tells, by-test}
 use Rattle.primitives.specs.Words.{permuted}

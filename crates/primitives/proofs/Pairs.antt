@@ -1,12 +1,14 @@
 -- Round words and the pairs that they stand for: two words for each pair, five pairs for each quintuple.
-use mathlib.Core.Path.{_≡_, refl, sym, ap, _∙_}
+use mathlib.Core.Path.{_≡_, refl, sym, ap, ap₂, _∙_}
 use mathlib.Core.List.{List, [], _∷_}
-use Prim.Native.Nat.{ℕ, zero, suc, _+_, _*_}
+use Prim.Native.Nat.{ℕ, zero, suc, _+_, _*_, _^_, _<_, suc-le-suc}
 use native.Mathlib.Omega.{arith}
-use lib.ListN.{length, take, drop}
+use lib.Dec.{lit<}
+use lib.ListN.{length, getD, take, drop}
 use lib.Seq.{drop-drop}
 use Rattle.published.specs.Rounds.{Pair}
 use Rattle.primitives.specs.Arranged.{next, stands, wordsFrom, pairsFrom}
+use Rattle.primitives.proofs.Arrangements.{arranged-lt, stands-arranged}
 
 abbrev double : ℕ → ℕ
 double zero = 0
@@ -43,11 +45,6 @@ length-pairs (suc j) k (v ∷ u ∷ ws) e = ap suc (length-pairs j (next k) ws (
 pub forty : (ws : List ℕ) → length ws ≡ 80 → length (pairsFrom 0 ws) ≡ 40
 forty ws e = length-pairs 40 0 ws e
 
-pub length-words : (k : ℕ) (ps : List Pair) → length (wordsFrom k ps) ≡ 2 * length ps
-unfolding wordsFrom
-length-words k [] = refl
-length-words k (p ∷ ps) = let rest : length (wordsFrom (next k) ps) ≡ 2 * length ps = length-words (next k) ps in omega arith
-
 -- the words from quintuple t on stand for the pairs from it on, and its ten words for its five pairs
 pairs-from : (t : ℕ) (ws : List ℕ) → pairsFrom 0 (drop (2 * (5 * t)) ws) ≡ drop (5 * t) (pairsFrom 0 ws)
 pairs-from zero ws = refl
@@ -66,3 +63,38 @@ first-pair ws = pairs-take 1 0 ws
 
 pub five-pairs : (t : ℕ) (ws : List ℕ) → pairsFrom 0 (take 10 (drop (2 * (5 * t)) ws)) ≡ take 5 (drop (5 * t) (pairsFrom 0 ws))
 five-pairs t ws = pairs-take 5 0 (drop (2 * (5 * t)) ws) ∙ ap (take 5) (pairs-from t ws)
+
+-- ---- words made of pairs, any pairs
+
+pub length-words : (k : ℕ) (ps : List Pair) → length (wordsFrom k ps) ≡ 2 * length ps
+unfolding wordsFrom
+length-words k [] = refl
+length-words k (p ∷ ps) = omega (arith, length-words (next k) ps)
+
+pub words-lt : (k : ℕ) (ps : List Pair) (i : ℕ) → getD (wordsFrom k ps) i 0 < 2 ^ 32
+unfolding wordsFrom
+words-lt k [] i = lit< tt
+words-lt k (p ∷ ps) zero = arranged-lt (suc k) (p .v)
+words-lt k (p ∷ ps) (suc zero) = arranged-lt (suc k) (p .u)
+words-lt k (p ∷ ps) (suc (suc i)) = words-lt (next k) ps i
+
+-- pairs of 32 bits each
+abbrev pub Fit : List Pair → Type 0
+Fit [] = Unit {0}
+Fit (p ∷ ps) = (p .u < 2 ^ 32) × (p .v < 2 ^ 32) × Fit ps
+
+next-lt : (k : ℕ) → k < 5 → next k < 5
+next-lt zero h = lit< tt
+next-lt (suc zero) h = lit< tt
+next-lt (suc (suc zero)) h = lit< tt
+next-lt (suc (suc (suc zero))) h = lit< tt
+next-lt (suc (suc (suc (suc k)))) h = lit< tt
+
+-- what is kept stands for what it was made of
+pub pairs-words : (k : ℕ) (ps : List Pair) → k < 5 → Fit ps → pairsFrom k (wordsFrom k ps) ≡ ps
+unfolding wordsFrom pairsFrom
+pairs-words k [] h f = refl
+pairs-words k (p ∷ ps) h f =
+    ap₂ (λ (q : Pair) (qs : List Pair). q ∷ qs)
+    (λ i. record { u = stands-arranged (suc k) (p .u) (suc-le-suc h) (f .0) i; v = stands-arranged (suc k) (p .v) (suc-le-suc h) (f .1) i })
+    (pairs-words (next k) ps (next-lt k h) (f .2))

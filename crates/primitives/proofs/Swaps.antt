@@ -1,15 +1,14 @@
 -- What the expressions of the swaps do to each bit; and a swap in one word, for a mask whose places do not overlap, is a move.
 use mathlib.Core.Path.{_≡_, refl, sym, ap, ap₂, _∙_}
 use mathlib.Core.Bool.{Bool, true, false, cond, not, _&&_}
-use mathlib.Core.List.{List, [], _∷_}
-use Prim.Native.Nat.{ℕ, _+_, _-_, _*_, _/_, _%_, _^_, _≤_, _<_}
+use Prim.Native.Nat.{ℕ, _+_, _-_, _*_, _/_, _%_, _^_, _<_}
 use native.Mathlib.Nat.{add-comm, add-sub-of-le, mod-lt, lt-of-le-of-lt, div-le-self}
 use borrow.Author.Tests.{leb-true}
 use lib.Bits.{bitAnd, bitXor, and-lt, xor-lt}
-use lib.Dec.{T, leb, ltb}
+use lib.Dec.{T, leb}
 use lib.Pow.{pow-pos}
-use Rattle.bits.specs.Digit.{digit, isOne, bit, ofBits, _⊕_}
-use Rattle.bits.proofs.Bits.{bit-and, bit-xor, bit-shr, bit-shl-cut, bit-ext, bit-ofBits, bit-out, ofBits-lt, ofBits-cong, ⊕-false, ⊕-comm, ⊕-assoc}
+use Rattle.bits.specs.Digit.{bit, _⊕_}
+use Rattle.bits.proofs.Bits.{bit-and, bit-xor, bit-shr, bit-shl-cut, bit-ext, bit-ofBits, ofBits-lt, ofBits-cong, ⊕-false, ⊕-comm}
 use Rattle.bits.proofs.Computed.{below, at}
 use Rattle.primitives.specs.Words.{permuted, swappedLow, swappedHigh, swappedSingle}
 

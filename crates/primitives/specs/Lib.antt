@@ -2,3 +2,4 @@
 pub mod Words
 pub mod Packed
 pub mod Arranged
+pub mod Answer

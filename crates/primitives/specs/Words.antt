@@ -1,5 +1,5 @@
 -- Words of 32 bits: bits that move within a word, and bits that change places.
-use mathlib.Core.Bool.{Bool, cond, _&&_}
+use mathlib.Core.Bool.{cond, _&&_}
 use Prim.Native.Nat.{ℕ, _+_, _-_, _*_, _/_, _%_}
 use lib.Dec.{leb}
 use Rattle.bits.specs.Digit.{bit, ofBits, _⊕_}

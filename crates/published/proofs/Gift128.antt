@@ -1,12 +1,12 @@
 -- Forty rounds and their undoing give each other's block back, byte for byte, for every key.
 use mathlib.Core.Path.{_≡_, refl, sym, ap, _∙_}
-use mathlib.Core.List.{List, [], _∷_}
+use mathlib.Core.List.{List}
 use Prim.Native.Nat.{ℕ, zero, suc, _^_, _<_}
 use lib.ListN.{length}
 use Rattle.published.specs.Bytes.{fromBytes, toBytes}
 use Rattle.published.specs.Rounds.{Pair, rounds, unrounds}
-use Rattle.published.specs.Key.{Key, keyOf, pairs, update}
-use Rattle.published.specs.Gift128.{pairOf, pairsOf, encrypted, decrypted}
+use Rattle.published.specs.Key.{Key, pairs, update}
+use Rattle.published.specs.Gift128.{pairsOf, encrypted, decrypted}
 use Rattle.published.proofs.Reading.{Bytes, from-to, to-from, fromBytes-lt}
 use Rattle.published.proofs.Steps.{width128}
 use Rattle.published.proofs.Undone.{rounds-lt, unrounds-lt, unrounds-rounds, rounds-unrounds}

@@ -2,7 +2,6 @@
 use mathlib.Core.List.{List, [], _∷_}
 use Prim.Native.Nat.{ℕ, zero, suc, _+_, _-_, _*_, _/_, _%_, _^_}
 use Rattle.bits.specs.Digit.{digit}
-use Rattle.published.specs.Bytes.{fromBytes}
 use Rattle.published.specs.Rounds.{Pair}
 
 -- eight words of 16 bits

@@ -1,15 +1,14 @@
 -- Columns and tables: a function of four words without shifts is a table, by a test at all sixteen nibbles; and what a table does to a column.
 use mathlib.Core.Path.{_≡_, refl, sym, ap, fun-ext, _∙_}
-use mathlib.Core.Bool.{Bool, true, false, not, _&&_}
+use mathlib.Core.Bool.{Bool, true, false, not}
 use mathlib.Core.List.{List, [], _∷_}
-use Prim.Native.Nat.{ℕ, zero, suc, _*_, _+_, _^_, _<_, zero-le}
+use Prim.Native.Nat.{ℕ, zero, suc, zero-le}
 use lib.Dec.{T, lit<}
 use lib.ListN.{getD}
 use Rattle.bits.specs.Digit.{bit, ofBits, number, _⊕_}
 use Rattle.bits.proofs.Bits.{bit-ext, bit-ofBits, bit-out, ofBits-lt, ⊕-equal}
 use Rattle.bits.proofs.Reflect.{W, value, value-lt, sized}
 use Rattle.bits.proofs.Pointwise.{flat, on-bits, pointwise, all-sixteen, at-sixteen}
-use Rattle.primitives.specs.Packed.{wordOf}
 use Rattle.primitives.specs.declared.State.{State}
 use Rattle.primitives.proofs.Blocks.{Words}
 use Rattle.quintuple.specs.Boxes.{column, substituted}

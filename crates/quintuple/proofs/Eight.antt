@@ -10,7 +10,7 @@ use Rattle.bits.proofs.Computed.{cond-true}
 use Rattle.published.specs.Rounds.{Pair, rounds, unrounds}
 use Rattle.published.proofs.Steps.{width128}
 use Rattle.published.proofs.Undone.{rounds-lt, unrounds-lt, rounds-append, unrounds-append}
-use Rattle.primitives.specs.Packed.{blockOf, stateOf}
+use Rattle.primitives.specs.Packed.{stateOf}
 use Rattle.primitives.specs.Arranged.{pairsFrom}
 use Rattle.primitives.proofs.Blocks.{blockOf-stateOf}
 use Rattle.primitives.proofs.Pairs.{forty, five-pairs}

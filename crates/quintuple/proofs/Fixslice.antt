@@ -4,18 +4,18 @@ use mathlib.Core.Path.{_≡_, refl, sym, ap, ap₂, _∙_}
 use mathlib.Core.Bool.{Bool, true, false, _&&_, _||_}
 use mathlib.Core.Logic.{⊎-elim}
 use Prim.Native.Nat.{ℕ, zero, suc, _+_, _-_, _*_, _/_, _%_, _^_, _<_, zero-le, suc-le-suc}
-use native.Mathlib.Nat.{le-refl, le-of-suc-le-suc, eq-or-lt-of-le, div-add-mod, mod-lt, lt-of-le-of-lt, lt-of-lt-of-le, sub-le}
+use native.Mathlib.Nat.{le-of-suc-le-suc, eq-or-lt-of-le, div-add-mod, lt-of-le-of-lt, lt-of-lt-of-le, sub-le}
 use native.Mathlib.Decide.{decLt}
 use native.Mathlib.Omega.{arith}
-use borrow.Author.Tests.{eq-eqb, ne-eqb, lt-ltb, le-ltb}
+use borrow.Author.Tests.{ne-eqb, lt-ltb, le-ltb}
 use lib.Bits.{bitXor, xor-lt}
-use lib.Dec.{T, eqb, eqb→eq, ltb, ltb→lt, lit<, lit≤}
-use Rattle.bits.specs.Digit.{digit, one, isOne, bit, ofBits, _⊕_}
+use lib.Dec.{eqb, eqb→eq, ltb, ltb→lt, lit<, lit≤}
+use Rattle.bits.specs.Digit.{digit, isOne, bit, ofBits, _⊕_}
 use Rattle.bits.proofs.Digits.{digit-lt, digit-top}
 use Rattle.bits.proofs.Bits.{bit-digit, bit-ext, bit-ofBits, bit-out, bit-join-low, bit-xor, ofBits-bit, ofBits-cong, ofBits-lt, one-lt, ⊕-false, ⊕-assoc, ⊕-twice}
 use Rattle.bits.proofs.Computed.{below, at, agree, bounded}
 use Rattle.published.specs.Rounds.{P, Pair, entry, unentry, subCells, permBits, xored, keyBit, constantBit, step, constant, round, unround}
-use Rattle.published.proofs.Steps.{back, width128, entry-lt, unentry-lt, entry-unentry, bit-subCells, bit-permBits, bit-xored}
+use Rattle.published.proofs.Steps.{back, width128, unentry-lt, entry-unentry, bit-subCells, bit-permBits, bit-xored}
 use Rattle.published.proofs.Undone.{round-lt, unround-round}
 use Rattle.primitives.specs.Words.{permuted}
 use Rattle.primitives.specs.Packed.{wordOf, blockOf}

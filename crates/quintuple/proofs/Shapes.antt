@@ -1,6 +1,6 @@
 -- What the code of each round makes is the round: one law for the five rounds and one for their undoing, over the three moves that the code uses.
-use mathlib.Core.Path.{_≡_, refl, sym, ap, ap₂, _∙_}
-use Prim.Native.Nat.{ℕ, _+_, _<_}
+use mathlib.Core.Path.{_≡_, refl, ap, _∙_}
+use Prim.Native.Nat.{ℕ}
 use lib.Bits.{bitXor}
 use lib.Dec.{T, eqb, ltb}
 use Rattle.bits.proofs.Computed.{below, agree, bounded}
@@ -10,8 +10,8 @@ use Rattle.primitives.specs.declared.State.{State}
 use Rattle.primitives.proofs.Blocks.{same-words}
 use Rattle.primitives.proofs.Moves.{permuted-cong, permuted-then}
 use Rattle.primitives.proofs.Swaps.{exchange, apart, swap-is-move}
-use Rattle.quintuple.specs.Boxes.{substituted, boxed}
-use Rattle.quintuple.specs.Inner.{exchangedOf, move, unmove, subround, unmoved, unsubround}
+use Rattle.quintuple.specs.Boxes.{boxed}
+use Rattle.quintuple.specs.Inner.{exchangedOf, move, unmove, subround, unsubround}
 
 -- the code's move is the move that is meant, by a test over the 32 places
 pub same-move : (π σ : ℕ → ℕ) → T (below 32 (λ i. eqb (π i) (σ i))) → (x y w : ℕ) → w ≡ permuted π x → x ≡ y → w ≡ permuted σ y

@@ -1,4 +1,5 @@
 -- `bench::close` answers as said: refused in the order 10, 5, and else with the lane idle.
+use native.Mathlib.Omega.{arith}
 use borrow.Author.Needs.{needs}
 use borrow.Author.Tests.{lt-ltb, le-ltb}
 use Rattle.bench.specs.Turning.{laneCount}
@@ -20,7 +21,7 @@ returns-2 c = rw (told-true (c .before .before .sound .ensures) (c .before .if1 
 
 idled-requires : tie.Need-idled-requires
 unfolding laneCount
-idled-requires c κs = c .if2 .left
+idled-requires c κs = omega arith
 
 returns-3 : tie.Need-returns-3
 unfolding closeOf closeCode laneCount

@@ -1,4 +1,5 @@
 -- `bench::open_lane` answers as said: refused in the order 10, 5, 6, 9, 1, 2, and else with the lane opened.
+use native.Mathlib.Omega.{arith}
 use borrow.Author.Needs.{needs}
 use borrow.Author.Tests.{lt-ltb, le-ltb, lt-leb, le-leb, ne-eqb}
 use Rattle.bench.specs.Turning.{laneCount}
@@ -71,7 +72,7 @@ opened-lane-requires c κs = search needs
 
 put-requires : tie.Need-put-requires
 unfolding laneCount
-put-requires c κs = c .before .before .before .before .before .before .before .if2 .left
+put-requires c κs = omega arith
 
 returns-7 : tie.Need-returns-7
 unfolding openOf openCode laneCount

@@ -1,5 +1,6 @@
 -- `bench::take` answers as said: refused in the order 10, 5, 7, 2, and else with the bytes written and the lane idle.
 use mathlib.Core.Path.{_∙_}
+use native.Mathlib.Omega.{arith}
 use borrow.Author.Needs.{needs}
 use borrow.Author.Tests.{lt-ltb, le-ltb, ne-eqb}
 use Rattle.packing.specs.Packing.{unpacked}
@@ -55,7 +56,7 @@ unpacking-requires c κs = search needs
 
 idled-requires : tie.Need-idled-requires
 unfolding laneCount
-idled-requires c κs = c .before .before .before .before .before .before .before .before .before .if2 .left
+idled-requires c κs = omega arith
 
 same-length : tie.Need-same-length
 same-length c = search needs

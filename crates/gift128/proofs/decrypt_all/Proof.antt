@@ -1,11 +1,11 @@
 -- `gift128::decrypt_all`: the blocks before place a are written.
-use mathlib.Core.Path.{_≡_, refl, sym, ap, _∙_}
+use mathlib.Core.Path.{_≡_, refl, sym, _∙_}
 use mathlib.Core.List.{List}
-use Prim.Native.Nat.{ℕ, _+_, _-_, _*_, _/_, _%_, _≤_, _<_}
+use Prim.Native.Nat.{ℕ, _+_, _-_, _/_, _%_, _≤_}
 use native.Mathlib.Omega.{arith}
 use borrow.Rule.Slice.PartMut.{same-len-mid}
 use denote.Ref.{now}
-use lib.ListN.{length, take, drop}
+use lib.ListN.{length, take}
 use Rattle.gift128.specs.Calls.{decryptedBy, eachBlock}
 use Rattle.gift128.proofs.Many.{each-none, sixteen, one-more, all-written}
 use Rattle.gift128.proofs.decrypt_all.Statement.{statement}

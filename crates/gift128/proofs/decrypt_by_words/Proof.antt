@@ -1,7 +1,8 @@
 -- `gift128::decrypt_by_words`: its refusals in their order, and the block.
 use borrow.Author.Needs.{needs}
 use denote.Ref.{now}
-use Rattle.gift128.proofs.Answers.{refuses, done, words-4, words-2, words-0}
+use Rattle.primitives.proofs.Outcome.{refuses, done}
+use Rattle.gift128.proofs.Answers.{words-4, words-2, words-0}
 use Rattle.gift128.proofs.decrypt_by_words.Statement.{statement}
 use Rattle.gift128.proofs.decrypt_by_words.Tie as tie
 

@@ -35,7 +35,6 @@ loop-again c =
     let ws : List ℕ = now (start .args .rkey) in
     let x : ℕ = blockOf (start .args .s) in
     let i : ℕ = l .i - 5 in
-    let more : 0 < l .i = c .before .before .loop-test .taken in
     let five : l .i ≡ i + 5 = omega arith in (
       omega arith,
       omega arith,

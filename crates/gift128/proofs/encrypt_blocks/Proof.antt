@@ -5,7 +5,8 @@ use mathlib.Core.List.{List}
 use Prim.Native.Nat.{ℕ}
 use denote.Ref.{now}
 use Rattle.gift128.specs.Calls.{encryptedBy, allBlocks}
-use Rattle.gift128.proofs.Answers.{refuses, done, many-1, many-2, many-3, many-0}
+use Rattle.primitives.proofs.Outcome.{refuses, done}
+use Rattle.gift128.proofs.Answers.{many-1, many-2, many-3, many-0}
 use Rattle.gift128.proofs.Blocks.{filled, encrypted-key}
 use Rattle.gift128.proofs.encrypt_blocks.Statement.{statement}
 use Rattle.gift128.proofs.encrypt_blocks.Tie as tie
@@ -32,7 +33,7 @@ returns-4 c =
     let key : List ℕ = now (a .key) in
     let input : List ℕ = now (a .input) in
     done _ _ _ _ (many-0 (now (a .key)) (now (a .input)) (now (a .output)) (d .before .before .if1 .left) (d .before .if2 .left) (d .if3 .left))
-    (c .before .before .encrypt-all .ensures ∙ ap (λ (ws : List ℕ). allBlocks (encryptedBy ws) input) (c .before .before .before .before .before .before .precompute-rkeys .ensures .1 ∙ filled key _ (d .before .before .if1 .left) refl)
+    (c .before .before .encrypt-all .ensures ∙ ap (λ (ws : List ℕ). allBlocks (encryptedBy ws) input) (c .before .before .before .before .before .before .precompute-rkeys .ensures .leaves ∙ filled key _ (d .before .before .if1 .left) refl)
     ∙ ap (λ (f : List ℕ → List ℕ). allBlocks f input) (fun-ext (encrypted-key key)))
 
 pub encrypt-blocks-spec : {M : Type 1} → statement M

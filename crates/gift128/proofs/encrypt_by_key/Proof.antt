@@ -5,7 +5,8 @@ use mathlib.Core.List.{List}
 use Prim.Native.Nat.{ℕ}
 use denote.Ref.{now}
 use Rattle.gift128.specs.Calls.{encryptedBy}
-use Rattle.gift128.proofs.Answers.{refuses, done, key-1, key-2, key-0}
+use Rattle.primitives.proofs.Outcome.{refuses, done}
+use Rattle.gift128.proofs.Answers.{key-1, key-2, key-0}
 use Rattle.gift128.proofs.Blocks.{filled, encrypted-key}
 use Rattle.gift128.proofs.encrypt_by_key.Statement.{statement}
 use Rattle.gift128.proofs.encrypt_by_key.Tie as tie
@@ -26,7 +27,7 @@ returns-3 c =
     let key : List ℕ = now (a .key) in
     let block : List ℕ = now (a .block) in
     done _ _ _ _ (key-0 key block (c .before .before .before .before .before .before .before .before .before .if1 .left) (c .before .before .before .before .before .before .before .before .if2 .left))
-    (c .before .before .encrypt-in-place .ensures ∙ ap (λ (ws : List ℕ). encryptedBy ws block) (c .before .before .before .before .before .before .precompute-rkeys .ensures .1 ∙ filled key _ (c .before .before .before .before .before .before .before .before .before .if1 .left) refl) ∙ encrypted-key key block)
+    (c .before .before .encrypt-in-place .ensures ∙ ap (λ (ws : List ℕ). encryptedBy ws block) (c .before .before .before .before .before .before .precompute-rkeys .ensures .leaves ∙ filled key _ (c .before .before .before .before .before .before .before .before .before .if1 .left) refl) ∙ encrypted-key key block)
 
 pub encrypt-by-key-spec : {M : Type 1} → statement M
 encrypt-by-key-spec =

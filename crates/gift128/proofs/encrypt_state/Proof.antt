@@ -37,7 +37,7 @@ loop-again c =
       omega arith,
       c .quintuple-round .ensures ∙ ap (λ (part : List ℕ). quintupled (l .state) part i) (part-to-end ws (2 * i))
           ∙ ap (λ (s : State). quintupled s (drop (2 * i) ws) i) (l .inv .2)
-          ∙ forward ws (start .pre) (blockOf (start .args .s)) (blockOf-lt (start .args .s)) i (l .inv .0) more,
+          ∙ forward ws (start .pre) (blockOf (start .args .s)) (blockOf-lt (start .args .s)) i (l .inv .0) (omega arith),
     )
 
 returns : tie.Need-returns Inv-loop μ-loop

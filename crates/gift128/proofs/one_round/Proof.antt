@@ -4,14 +4,15 @@ use mathlib.Core.Path.{refl, ap, _∙_}
 use mathlib.Core.List.{List}
 use Prim.Native.Nat.{ℕ}
 use denote.Ref.{now}
-use lib.ListN.{length, take}
+use lib.ListN.{take}
 use Rattle.published.specs.Rounds.{Pair, rounds}
 use Rattle.published.specs.Gift128.{pairsOf}
 use Rattle.published.proofs.Steps.{width128}
 use Rattle.published.proofs.Undone.{rounds-lt}
 use Rattle.quintuple.specs.Quintuple.{firstRound}
 use Rattle.gift128.specs.Calls.{afterOne}
-use Rattle.gift128.proofs.Answers.{refuses, done, key-1, key-2, key-0}
+use Rattle.primitives.proofs.Outcome.{refuses, done}
+use Rattle.gift128.proofs.Answers.{key-1, key-2, key-0}
 use Rattle.gift128.proofs.Blocks.{through, filled, first-of-key}
 use Rattle.gift128.proofs.one_round.Statement.{statement}
 use Rattle.gift128.proofs.one_round.Tie as tie
@@ -37,7 +38,7 @@ returns-3 c =
     done _ _ _ _ (key-0 key block (d .before .if1 .left) (d .if2 .left))
     (through (rounds 128 1 ps 0) (c .before .before .before .before .before .before .packing .result) (c .before .before .before .before .first-round .result) block block _ (rounds-lt 128 1 width128 ps 0) (d .if2 .left)
     (λ i. d .before .before .slice-known .given i .fits) (d .if2 .left) (c .before .before .before .before .before .before .packing .ensures)
-    (c .before .before .before .before .first-round .ensures ∙ ap (firstRound (c .before .before .before .before .before .before .packing .result)) (c .before .before .before .before .before .before .before .before .before .precompute-rkeys .ensures .1 ∙ filled key _ (d .before .if1 .left) refl) ∙ first-of-key key (c .before .before .before .before .before .before .packing .result))
+    (c .before .before .before .before .first-round .ensures ∙ ap (firstRound (c .before .before .before .before .before .before .packing .result)) (c .before .before .before .before .before .before .before .before .before .precompute-rkeys .ensures .leaves ∙ filled key _ (d .before .if1 .left) refl) ∙ first-of-key key (c .before .before .before .before .before .before .packing .result))
     (c .before .before .unpacking .ensures))
 
 pub one-round-spec : {M : Type 1} → statement M

@@ -1,8 +1,6 @@
 -- `primitives::ror` rotates by any number of places: by none, and by each of the others, all 32 of them tested at once.
-use mathlib.Core.Path.{_≡_, sym, ap, _∙_}
-use mathlib.Core.Bool.{Bool}
-use mathlib.Core.List.{[], _∷_}
-use Prim.Native.Nat.{ℕ, _+_, _-_, _%_, _^_, _<_}
+use mathlib.Core.Path.{sym, ap, _∙_}
+use Prim.Native.Nat.{ℕ, _-_, _%_}
 use native.Mathlib.Nat.{mod-lt}
 use borrow.Author.Needs.{needs}
 use lib.Dec.{lit<}

@@ -1,9 +1,9 @@
 -- `primitives::u32big` reads four bytes as the number that they are: the test finds each of its bits in one of them.
 use mathlib.Core.Path.{_≡_, sym, _∙_}
 use mathlib.Core.List.{List, [], _∷_}
-use Prim.Native.Nat.{ℕ, _-_, _*_, _/_, _%_, _^_, _<_}
+use Prim.Native.Nat.{ℕ, _-_, _/_, _%_, _^_, _<_}
 use lib.ListN.{getD}
-use Rattle.bits.specs.Digit.{bit, ofBits}
+use Rattle.bits.specs.Digit.{bit}
 use Rattle.bits.proofs.Bits.{ofBits-bit, ofBits-cong}
 use Rattle.bits.proofs.Reflect.{W, var, or, shl, atom, value, by-test}
 use Rattle.published.specs.Bytes.{fromBytes}

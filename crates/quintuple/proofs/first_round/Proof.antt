@@ -1,6 +1,6 @@
 -- `quintuple::first_round`: round 1 on words is the published round, and its words are put in place.
 use mathlib.Core.Path.{_≡_, refl, sym, ap, _∙_}
-use mathlib.Core.List.{List, [], _∷_}
+use mathlib.Core.List.{List}
 use Prim.Native.Nat.{ℕ, _≤_}
 use native.Mathlib.Omega.{arith}
 use borrow.Author.Needs.{needs}
@@ -13,7 +13,7 @@ use Rattle.published.specs.Rounds.{rounds}
 use Rattle.primitives.specs.Packed.{blockOf, stateOf}
 use Rattle.primitives.specs.Arranged.{stands, pairsFrom}
 use Rattle.primitives.specs.declared.State.{State}
-use Rattle.primitives.proofs.Blocks.{Words, same-words, stateOf-blockOf}
+use Rattle.primitives.proofs.Blocks.{same-words, stateOf-blockOf}
 use Rattle.quintuple.specs.Quintuple.{firstRound}
 use Rattle.quintuple.proofs.Fixslice.{blockIn-none}
 use Rattle.quintuple.proofs.Five.{carried, go-on, first-two, in-place}

@@ -1,7 +1,8 @@
 -- `gift128::Gift128::decrypt_block`: its one refusal, and the block by the words that it keeps.
 use borrow.Author.Needs.{needs}
 use denote.Ref.{now}
-use Rattle.gift128.proofs.Answers.{refuses, done, block-2, block-0}
+use Rattle.primitives.proofs.Outcome.{refuses, done}
+use Rattle.gift128.proofs.Answers.{block-2, block-0}
 use Rattle.gift128.proofs.Gift128.decrypt_block.Statement.{statement}
 use Rattle.gift128.proofs.Gift128.decrypt_block.Tie as tie
 

@@ -11,7 +11,7 @@ use Rattle.gift128.proofs.Gift128.new.Tie as tie
 returns : tie.Need-returns
 unfolding expandCode newCode
 returns c =
-    (c .before .precompute-rkeys .ensures .0, c .before .precompute-rkeys .ensures .1 ∙ new-words (now (c .before .before .before .before .args .key)))
+    (c .before .precompute-rkeys .ensures .is, c .before .precompute-rkeys .ensures .leaves ∙ new-words (now (c .before .before .before .before .args .key)))
 
 pub new-spec : {M : Type 1} → statement M
 new-spec = tie.close (tie.spec (λ c. search needs) (λ c κs. search needs) returns)

@@ -1,0 +1,8 @@
+-- The laws behind the line program's proofs.
+pub mod Texts
+pub mod Numerals
+pub mod Good
+pub mod Lengths
+pub mod Whole
+pub mod Responses
+pub mod Shape

@@ -1,0 +1,37 @@
+-- What each letter is answered, and that a call by a key of 16 bytes on a block of 16 bytes leaves what it was to write.
+use mathlib.Core.Path.{_≡_, ap, _∙_}
+use mathlib.Core.List.{List}
+use Prim.Native.Nat.{ℕ}
+use borrow.Author.Tests.{eq-eqb, ne-eqb}
+use lib.Dec.{eqb}
+use lib.ListN.{length}
+use Rattle.bits.proofs.Computed.{cond-true}
+use Rattle.published.specs.Bytes.{fromBytes}
+use Rattle.published.specs.Gift128.{encrypted, decrypted}
+use Rattle.primitives.specs.Answer.{Gives}
+use Rattle.gift128.specs.Calls.{keyCode, afterOne}
+use Rattle.gift128.proofs.Answers.{key-0}
+use Rattle.lines.specs.Hex.{hexOf}
+use Rattle.lines.specs.Line.{packedText, response}
+
+pub leaves : (key block : List ℕ) {new left : List ℕ} {r : ℕ} → length key ≡ 16 → length block ≡ 16 → Gives (keyCode key block) new block r left → left ≡ new
+leaves key block k b g = g .leaves ∙ cond-true _ _ _ (ap (λ (n : ℕ). eqb n 0) (key-0 key block k b))
+
+module _ (c : ℕ) (key block : List ℕ) where
+  pub response-E : c ≡ 69 → response c key block ≡ hexOf (encrypted key block)
+  unfolding response
+  response-E e = rw (eq-eqb c 69 e)
+
+  module _ (not-E : c ≡ 69 → ⊥) where
+    pub response-D : c ≡ 68 → response c key block ≡ hexOf (decrypted key block)
+    unfolding response
+    response-D e = rw (ne-eqb c 69 not-E, eq-eqb c 68 e)
+
+    module _ (not-D : c ≡ 68 → ⊥) where
+      pub response-R : c ≡ 82 → response c key block ≡ hexOf (afterOne key block)
+      unfolding response
+      response-R e = rw (ne-eqb c 69 not-E, ne-eqb c 68 not-D, eq-eqb c 82 e)
+
+      pub response-P : (c ≡ 82 → ⊥) → response c key block ≡ packedText (fromBytes block)
+      unfolding response
+      response-P not-R = rw (ne-eqb c 69 not-E, ne-eqb c 68 not-D, ne-eqb c 82 not-R)

@@ -1,0 +1,363 @@
+// A line in, a line out: the line program of document 01, all but the reading and writing.
+ghost use mathlib.Core.Path.{_≡_};
+ghost use mathlib.Core.Bool.{true};
+ghost use mathlib.Core.List.{List, _++_, _∷_, []};
+ghost use Prim.Native.Nat.{ℕ, _+_, _*_, _%_, _<_, min};
+ghost use lib.ListN.{length, getD};
+ghost use Rattle.published.specs.Bytes.{toBytes};
+ghost use Rattle.lines.specs.Hex.{hexDigits, valueOf, allHex, bytesOf, hexOf};
+ghost use Rattle.lines.specs.Decimal.{decimalOf};
+ghost use Rattle.lines.specs.Line.{isLetter, isGood, keyText, blockText, wordsText, response, badLine, answerOf};
+ghost use Rattle.lines.specs.Input.{answerLine, firstLine, doneLine};
+ghost use Rattle.lines.specs.Written.{written};
+ghost use Rattle.lines.specs.Session.{freshReader, nextLine, held, kept, fedBy, closingOf};
+use gift128::decrypt_by_key;
+use gift128::encrypt_by_key;
+use gift128::one_round;
+use packing::packing;
+use primitives::State;
+
+// A text of up to 64 bytes.
+#[repr(C)]
+pub struct Text {
+    pub bytes: [u8; 64],
+    pub count: usize,
+}
+
+fn empty() -> Text
+    ensures { λ r. ⌜ r ≡ written [] ⌝ }
+{
+    Text {
+        bytes: [0; 64],
+        count: 0,
+    }
+}
+
+// One byte more; a full text stays as it is.
+fn push(t: Text, b: u8) -> Text
+    ensures { λ r. ⌜ ((l : List ℕ) → t ≡ written l → r ≡ written (l ++ (b ∷ []))) ⌝ }
+{
+    let count = t.count;
+    if count < 64 {
+        let mut bytes = t.bytes;
+        bytes[count] = b;
+        Text {
+            bytes,
+            count: count + 1,
+        }
+    } else {
+        t
+    }
+}
+
+fn push_all(t: Text, bs: &[u8]) -> Text
+    ensures { λ r. ⌜ ((l : List ℕ) → t ≡ written l → r ≡ written (l ++ now (bs .entry))) ⌝ }
+{
+    let mut r = t;
+    let mut i = 0;
+    while i < bs.len() {
+        r = push(r, bs[i]);
+        i += 1;
+    }
+    r
+}
+
+fn push_decimal(t: Text, n: u64) -> Text
+    ensures { λ r. ⌜ ((l : List ℕ) → t ≡ written l → r ≡ written (l ++ decimalOf n)) ⌝ }
+{
+    let d = (n % 10) as u8;
+    if n < 10 {
+        return push(t, b'0' + d);
+    }
+    let r = push_decimal(t, n / 10);
+    push(r, b'0' + d)
+}
+
+fn hex_digit(d: u8) -> u8
+    requires { ⌜ d < 16 ⌝ }
+    ensures { λ r. ⌜ r ≡ getD hexDigits d 0 ⌝ }
+{
+    if d < 10 { b'0' + d } else { d - 10 + b'a' }
+}
+
+fn push_byte(t: Text, b: u8) -> Text
+    ensures { λ r. ⌜ ((l : List ℕ) → t ≡ written l → r ≡ written (l ++ hexOf (b ∷ []))) ⌝ }
+{
+    let high = hex_digit(b / 16);
+    let low = hex_digit(b % 16);
+    push(push(t, high), low)
+}
+
+fn push_hex(t: Text, bs: &[u8]) -> Text
+    ensures { λ r. ⌜ ((l : List ℕ) → t ≡ written l → r ≡ written (l ++ hexOf (now (bs .entry)))) ⌝ }
+{
+    let mut r = t;
+    let mut i = 0;
+    while i < bs.len() {
+        r = push_byte(r, bs[i]);
+        i += 1;
+    }
+    r
+}
+
+// What a hex digit stands for, and 16 for any other byte.
+fn value(c: u8) -> u8
+    ensures { λ r. ⌜ r ≡ valueOf c ⌝ }
+{
+    if c < b'0' {
+        return 16;
+    }
+    if c <= b'9' {
+        return c - b'0';
+    }
+    if c < b'a' {
+        return 16;
+    }
+    if c <= b'f' {
+        return c - b'a' + 10;
+    }
+    16
+}
+
+fn all_hex(text: &[u8]) -> bool
+    ensures { λ r. ⌜ r ≡ allHex (now (text .entry)) ⌝ }
+{
+    let mut i = 0;
+    while i < text.len() {
+        if value(text[i]) > 15 {
+            return false;
+        }
+        i += 1;
+    }
+    true
+}
+
+fn byte_of(high: u8, low: u8) -> u8
+    requires { ⌜ (valueOf high < 16) × (valueOf low < 16) ⌝ }
+    ensures { λ r. ⌜ r ≡ valueOf high * 16 + valueOf low ⌝ }
+{
+    value(high) * 16 + value(low)
+}
+
+fn sixteen_bytes(text: &[u8]) -> [u8; 16]
+    requires { ⌜ (length (now text) ≡ 32) × (allHex (now text) ≡ true) ⌝ }
+    ensures { λ r. ⌜ r ≡ bytesOf (now (text .entry)) ⌝ }
+{
+    let mut out = [0; 16];
+    for i in 0..16 {
+        out[i] = byte_of(text[2 * i], text[2 * i + 1]);
+    }
+    out
+}
+
+fn low8(x: u32) -> u8
+    ensures { λ r. ⌜ r ≡ x % 256 ⌝ }
+{
+    (x % 256) as u8
+}
+
+fn push_word(t: Text, w: u32) -> Text
+    ensures { λ r. ⌜ ((l : List ℕ) → t ≡ written l → r ≡ written (l ++ hexOf (toBytes 4 w))) ⌝ }
+{
+    let bytes = [low8(w >> 24), low8(w >> 16), low8(w >> 8), low8(w)];
+    push_hex(t, &bytes)
+}
+
+fn words_text(s: State) -> Text
+    ensures { λ r. ⌜ r ≡ written (wordsText (s .s0) (s .s1) (s .s2) (s .s3)) ⌝ }
+{
+    let a = push(push_word(empty(), s.s0), b' ');
+    let b = push(push_word(a, s.s1), b' ');
+    let c = push(push_word(b, s.s2), b' ');
+    push_word(c, s.s3)
+}
+
+fn is_letter(c: u8) -> bool
+    ensures { λ r. ⌜ r ≡ isLetter c ⌝ }
+{
+    if c == b'E' {
+        return true;
+    }
+    if c == b'D' {
+        return true;
+    }
+    if c == b'R' {
+        return true;
+    }
+    c == b'P'
+}
+
+fn is_good(line: &[u8]) -> bool
+    ensures { λ r. ⌜ r ≡ isGood (now (line .entry)) ⌝ }
+{
+    if line.len() != 67 {
+        return false;
+    }
+    if !is_letter(line[0]) {
+        return false;
+    }
+    if line[1] != b' ' {
+        return false;
+    }
+    if line[34] != b' ' {
+        return false;
+    }
+    if !all_hex(&line[2..34]) {
+        return false;
+    }
+    all_hex(&line[35..67])
+}
+
+// A good line's answer, by its letter; the block is worked on in place.
+fn respond(letter: u8, key: &[u8], block: &mut [u8]) -> Text
+    requires { ⌜ (length (now key) ≡ 16) × (length (now block) ≡ 16) ⌝ }
+    ensures { λ r. ⌜ r ≡ written (response letter (now (key .entry)) (now (block .entry))) ⌝ }
+{
+    if letter == b'E' {
+        encrypt_by_key(key, block);
+        return push_hex(empty(), block);
+    }
+    if letter == b'D' {
+        decrypt_by_key(key, block);
+        return push_hex(empty(), block);
+    }
+    if letter == b'R' {
+        one_round(key, block);
+        return push_hex(empty(), block);
+    }
+    words_text(packing(block))
+}
+
+fn respond_to(line: &[u8]) -> Text
+    requires { ⌜ isGood (now line) ≡ true ⌝ }
+    ensures { λ r. ⌜ r ≡ written (response (getD (now (line .entry)) 0 0) (bytesOf (keyText (now (line .entry)))) (bytesOf (blockText (now (line .entry))))) ⌝ }
+{
+    let key = sixteen_bytes(&line[2..34]);
+    let mut block = sixteen_bytes(&line[35..67]);
+    respond(line[0], &key, &mut block)
+}
+
+fn bad_line(n: u64) -> Text
+    ensures { λ r. ⌜ r ≡ written (badLine n) ⌝ }
+{
+    push_decimal(push_all(empty(), b"bad line "), n)
+}
+
+// The answer to a line, by its number, without the newline.
+pub fn answer(n: u64, line: &[u8]) -> Text
+    ensures { λ r. ⌜ r ≡ written (answerOf n (now (line .entry))) ⌝ }
+{
+    if is_good(line) {
+        respond_to(line)
+    } else {
+        bad_line(n)
+    }
+}
+
+// The first line of every output.
+pub fn first_line() -> Text
+    ensures { λ r. ⌜ r ≡ written firstLine ⌝ }
+{
+    push_all(empty(), b"gift-lines 1\n")
+}
+
+// The bytes of a line that has begun, the first 68 of them, and how many lines there were before it.
+#[repr(C)]
+pub struct Reader {
+    pub line: [u8; 68],
+    pub count: usize,
+    pub lines: u64,
+}
+
+// What a byte of input leads to.
+#[repr(C)]
+pub struct Fed {
+    pub reader: Reader,
+    pub text: Text,
+}
+
+pub fn fresh() -> Reader
+    ensures { λ r. ⌜ r ≡ freshReader ⌝ }
+{
+    Reader {
+        line: [0; 68],
+        count: 0,
+        lines: 0,
+    }
+}
+
+fn next_line(n: u64) -> u64
+    ensures { λ r. ⌜ r ≡ nextLine n ⌝ }
+{
+    if n < u64::MAX { n + 1 } else { n }
+}
+
+fn keep(r: Reader, b: u8) -> Reader
+    ensures { λ s. ⌜ s ≡ kept r b ⌝ }
+{
+    let count = r.count;
+    if count < 68 {
+        let mut line = r.line;
+        line[count] = b;
+        Reader {
+            line,
+            count: count + 1,
+            lines: r.lines,
+        }
+    } else {
+        r
+    }
+}
+
+fn at_most_68(n: usize) -> usize
+    ensures { λ r. ⌜ r ≡ min n 68 ⌝ }
+{
+    if n < 68 { n } else { 68 }
+}
+
+// The answer to the line that was kept, with its newline.
+fn answer_line(r: Reader, n: u64) -> Text
+    ensures { λ t. ⌜ t ≡ written (answerLine n (held r)) ⌝ }
+{
+    let line = r.line;
+    let count = at_most_68(r.count);
+    push(answer(n, &line[0..count]), b'\n')
+}
+
+// One byte of input more.
+pub fn feed(r: Reader, b: u8) -> Fed
+    ensures { λ f. ⌜ f ≡ fedBy r b ⌝ }
+{
+    if b == b'\n' {
+        let lines = next_line(r.lines);
+        let text = answer_line(r, lines);
+        let line = r.line;
+        let reader = Reader {
+            line,
+            count: 0,
+            lines,
+        };
+        Fed { reader, text }
+    } else {
+        let reader = keep(r, b);
+        let text = empty();
+        Fed { reader, text }
+    }
+}
+
+fn push_done(t: Text, n: u64) -> Text
+    ensures { λ r. ⌜ ((l : List ℕ) → t ≡ written l → r ≡ written (l ++ doneLine n)) ⌝ }
+{
+    push(push_decimal(push_all(t, b"done "), n), b'\n')
+}
+
+// The end of the input.
+pub fn closing(r: Reader) -> Text
+    ensures { λ t. ⌜ t ≡ written (closingOf r) ⌝ }
+{
+    if r.count == 0 {
+        return push_done(empty(), r.lines);
+    }
+    let n = next_line(r.lines);
+    push_done(answer_line(r, n), n)
+}
