@@ -25,7 +25,14 @@ struct Answer {
     lanes: [Lane; LANES],
 }
 
-fn opened(all: [Lane; LANES], last: u32, lane: u32, direction: u32, key: &[u8], block: &[u8]) -> Answer
+fn opened(
+    all: [Lane; LANES],
+    last: u32,
+    lane: u32,
+    direction: u32,
+    key: &[u8],
+    block: &[u8],
+) -> Answer
     ensures { λ r. ⌜ (r .code ≡ openOf (lent all last) lane direction (now (key .entry)) (now (block .entry)) .code)
         × (r .lanes ≡ openOf (lent all last) lane direction (now (key .entry)) (now (block .entry)) .bench .lanes) ⌝ }
 {
@@ -125,7 +132,14 @@ fn scatter(lanes: &mut [Lane], a: Answer) -> u32
     a.code
 }
 
-pub fn open_lane(lanes: &mut [Lane], last: u32, lane: u32, direction: u32, key: &[u8], block: &[u8]) -> u32
+pub fn open_lane(
+    lanes: &mut [Lane],
+    last: u32,
+    lane: u32,
+    direction: u32,
+    key: &[u8],
+    block: &[u8],
+) -> u32
     ensures { λ r. ⌜ (r ≡ openOf (lent (now (lanes .entry)) last) lane direction (now (key .entry)) (now (block .entry)) .code)
         × (now (lanes .exit) ≡ openOf (lent (now (lanes .entry)) last) lane direction (now (key .entry)) (now (block .entry)) .bench .lanes) ⌝ }
 {

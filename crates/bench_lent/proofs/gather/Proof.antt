@@ -139,10 +139,13 @@ module _ {M : Type 1} (𝓤 : URA M) (H : Heap 𝓤) (A : Atoms 𝓤) (W : Given
       where
         fits : i * 340 < 2 ^ 64
         fits = omega arith
+
         next : i + 1 < 2 ^ 64
         next = omega arith
+
         from-ys : i < length ys
         from-ys = omega arith
+
         from-zs : i < length zs
         from-zs = omega arith
 
@@ -161,7 +164,6 @@ module _ {M : Type 1} (𝓤 : URA M) (H : Heap 𝓤) (A : Atoms 𝓤) (W : Given
         -- [obs; the borrow; the token; what the array owns; _2; _3; _6; …; _12; _1; _0; _4; _5; and that each local dies]
         returns ! (look ! 14 refl) $ forget ! 4 refl $ forget ! 5 refl $ forget ! 6 refl $ forget ! 13 refl $ forget ! 14 refl $
         move ! (14 ∷ 17 ∷ 13 ∷ 18 ∷ 4 ∷ 19 ∷ 5 ∷ 20 ∷ 15 ∷ 21 ∷ 16 ∷ 22 ∷ 6 ∷ 23 ∷ 7 ∷ 24 ∷ 8 ∷ 25 ∷ 9 ∷ 26 ∷ 10 ∷ 27 ∷ 11 ∷ 28 ∷ 12 ∷ 29 ∷ []) $ freed ! $ by ! (exits _))
-
 
     -- the loop from turn i on, where t turns are left
     turns : (t i : ℕ) (zs : List Lane) → t + i ≡ count → length zs ≡ count → take i zs ≡ take i ys → ent 𝓤 (⋆ 𝓤 H A (At i zs)) (Λ turn-1 En Left)

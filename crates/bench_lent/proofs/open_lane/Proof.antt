@@ -190,8 +190,19 @@ module _ {M : Type 1} (𝓤 : URA M) (H : Heap 𝓤) (A : Atoms 𝓤) (W : Given
       (a .1 .1 .1 .1 .0) (a .1 .1 .1 .1 .1 .0) (are .1 .1 .1 .1 .0 .0 .1) (are .1 .1 .1 .1 .1 .0 .0 .1) (𝓣 .C) (𝓣 .Λ) (fmOf 𝓤 H (W .laws) 𝓣) known-gather known-opened known-scatter))
 
   goes : AllGo 𝓤 H A W 3 (open-lane.signature .params) (open-lane.ended .kept) stayed
-  goes = (goes-gave-slice 𝓤 H A W 3 0 tt (plain (λ _. R)), (goes-none 𝓤 H A W 3 (λ _. u32) yes (λ κs x f. refl), (goes-none 𝓤 H A W 3 (λ _. u32) yes (λ κs x f. refl), (goes-none 𝓤 H A W 3 (λ _. u32) yes (λ κs x f. refl),
-      (goes-none-slice 𝓤 H A W 3 (1 ∷ []) tt (plain (λ _. u8)) yes, (goes-none-slice 𝓤 H A W 3 (2 ∷ []) tt (plain (λ _. u8)) yes, tt))))))
+  goes = (
+    goes-gave-slice 𝓤 H A W 3 0 tt (plain (λ _. R)),
+    (
+      goes-none 𝓤 H A W 3 (λ _. u32) yes (λ κs x f. refl),
+      (
+        goes-none 𝓤 H A W 3 (λ _. u32) yes (λ κs x f. refl),
+        (
+          goes-none 𝓤 H A W 3 (λ _. u32) yes (λ κs x f. refl),
+          (goes-none-slice 𝓤 H A W 3 (1 ∷ []) tt (plain (λ _. u8)) yes, (goes-none-slice 𝓤 H A W 3 (2 ∷ []) tt (plain (λ _. u8)) yes, tt)),
+        ),
+      ),
+    ),
+  )
 
   open-lane-meets : Meets 𝓤 H A open-lane.signature (WpFn 𝓤 H (𝓣 .C) (𝓣 .Λ) code.function) (open-lane.spec 𝓤 H A at-mem run)
   open-lane-meets = walk-meets 𝓤 H A open-lane.ended stayed W goes (open-lane.clauses 𝓤 H A at-mem run) (WpFn 𝓤 H (𝓣 .C) (𝓣 .Λ) code.function) (WpFn-mono 𝓤 H (W .laws) 𝓣 code.function) open-lane-walks

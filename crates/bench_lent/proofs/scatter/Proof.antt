@@ -172,10 +172,13 @@ module _ {M : Type 1} (𝓤 : URA M) (H : Heap 𝓤) (A : Atoms 𝓤) (W : Given
       where
         fits : i * 340 < 2 ^ 64
         fits = omega arith
+
         next : i + 1 < 2 ^ 64
         next = omega arith
+
         from-xs : i < length xs
         from-xs = omega (arith, same)
+
         from-zs : i < length zs
         from-zs = omega (arith, same)
 

@@ -143,7 +143,7 @@ module _ {M : Type 1} (𝓤 : URA M) (H : Heap 𝓤) (A : Atoms 𝓤) (W : Given
   answered v w =
       qed W (raw (Take 𝓤 H A at-mem run .post (to-taken v) w) ∷ []) ∵ updating ! $
       use1 W (later (some (λ (r : Answer). ((‵ (flft κ₁ q₁) ⊛ ‵ ftrue) ⊛ ‵ (S.the-row .own r (w ∷ [])))
-      ⊛ some (λ (ws : Lasts taken.ended (κ₁, tt) (passed-on out)). ‵ (lasts taken.ended (κ₁, tt) (passed-on out) ws) ⊛ raw (fact 𝓤 ((r .code ≡ wanted .code) × (r .lanes ≡ wanted .bench .lanes) × (ws .1 .1 .1 .0 ≡ bytes)))))) ) (id⊢ 𝓤 _) $ await ! tt $ pick ! (λ r.
+      ⊛ some (λ (ws : Lasts taken.ended (κ₁, tt) (passed-on out)). ‵ (lasts taken.ended (κ₁, tt) (passed-on out) ws) ⊛ raw (fact 𝓤 ((r .code ≡ wanted .code) × (r .lanes ≡ wanted .bench .lanes) × (ws .1 .1 .1 .0 ≡ bytes))))))) (id⊢ 𝓤 _) $ await ! tt $ pick ! (λ r.
       split ! $ move ! (1 ∷ []) $ pick ! (λ ws. split ! $ move ! (1 ∷ []) $ heard ! ((r .code ≡ wanted .code) × (r .lanes ≡ wanted .bench .lanes) × (ws .1 .1 .1 .0 ≡ bytes)) (λ e.
       fsplit ! $ drop ! $ fsplit ! $ drop ! $ fsplit ! $ drop ! $ fsplit ! $ fsplit ! $ rewrite ! 0 (λ (bs : List ℕ). ‵ (finally u8 (name out) bs)) (e .2) refl $ move ! (1 ∷ []) $ feqL ! (λ l. at-once ! $
       show ! (λ (r′ : Answer). guard 𝓤 (Right r′) (sep 𝓤 (A .lft κ₁ q₁) (sep 𝓤 (sem 𝓤 H A (finally u8 (name out) bytes)) (sem 𝓤 H A (S.the-row .own r′ (w ∷ [])))))) r $ check ! (e .0, e .1, sym (ap length (e .2)) ∙ l) $
