@@ -15,7 +15,7 @@ use prog.Routine.{Routine}
 use prog.Wp.{Heap}
 use ghost.Atoms.{Atoms, sem}
 use contract.Monad.{Fun, fact}
-use types.Kit.{Given, ‵, raw, _⊛_, some, later, _$_, _∵_, !, qed, move, keep, drop, use1, use2, use3, rewrite, split, join, pick, check, fsplit, fjoin, feqL, show, frame, await, updating, now as at-once, done}
+use types.Kit.{Given, ‵, raw, _⊛_, some, later, _$_, _∵_, !, qed, move, keep, use1, use2, use3, rewrite, split, join, pick, check, fsplit, fjoin, feqL, show, frame, await, updating, now as at-once, done}
 use types.Tokens.{lft-end}
 use denote.Builtin.{u32}
 use denote.RattleType.{RattleType}

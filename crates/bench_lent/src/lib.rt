@@ -9,6 +9,9 @@ ghost use Rattle.bench.specs.Turning.{laneCount};
 ghost use Rattle.bench.specs.Calls.{openOf, turnOf, takeOf, takenBytes, closeOf};
 ghost use Rattle.bench_lent.specs.Lent.{lent, turnsOf};
 
+// How many records a host lends.
+const RECORDS: usize = LANES;
+
 // What a call for turns tells: its number, the turns made, and the lane last served.
 #[repr(C)]
 pub struct Turns {
@@ -17,7 +20,7 @@ pub struct Turns {
     pub last: u32,
 }
 
-// What a by-value call answers, for every call alike; made is 0 but of a call for turns.
+// What a by-value call answers, for every call alike. Only turns are made, and only they move the last served number.
 struct Answer {
     code: u32,
     made: u32,
@@ -42,7 +45,7 @@ fn opened(
     Answer {
         code: o.code,
         made: 0,
-        last: b.last,
+        last,
         lanes,
     }
 }
@@ -75,7 +78,7 @@ fn taken(all: [Lane; LANES], last: u32, lane: u32, out: &mut [u8]) -> Answer
     Answer {
         code: t.code,
         made: 0,
-        last: b.last,
+        last,
         lanes,
     }
 }
@@ -89,7 +92,7 @@ fn closed(all: [Lane; LANES], last: u32, lane: u32) -> Answer
     Answer {
         code: c.code,
         made: 0,
-        last: b.last,
+        last,
         lanes,
     }
 }
@@ -124,10 +127,10 @@ fn scatter(lanes: &mut [Lane], a: Answer) -> u32
     ensures { λ r. ⌜ (r ≡ a .code) × (now (lanes .exit) ≡ a .lanes) ⌝ }
 {
     let all = a.lanes;
-    let mut i: usize = 0;
-    while i < LANES {
-        lanes[i] = all[i];
-        i += 1;
+    let mut to: usize = 0;
+    while to < LANES {
+        lanes[to] = all[to];
+        to += 1;
     }
     a.code
 }
@@ -143,7 +146,7 @@ pub fn open_lane(
     ensures { λ r. ⌜ (r ≡ openOf (lent (now (lanes .entry)) last) lane direction (now (key .entry)) (now (block .entry)) .code)
         × (now (lanes .exit) ≡ openOf (lent (now (lanes .entry)) last) lane direction (now (key .entry)) (now (block .entry)) .bench .lanes) ⌝ }
 {
-    if lanes.len() != LANES {
+    if lanes.len() != RECORDS {
         return 10;
     }
     let all = gather(lanes);
@@ -155,7 +158,7 @@ pub fn turn(lanes: &mut [Lane], last: u32, asked: u32) -> Turns
     ensures { λ r. ⌜ (r ≡ turnsOf (turnOf (lent (now (lanes .entry)) last) asked))
         × (now (lanes .exit) ≡ turnOf (lent (now (lanes .entry)) last) asked .bench .lanes) ⌝ }
 {
-    if lanes.len() != LANES {
+    if lanes.len() != RECORDS {
         return Turns {
             code: 10,
             made: 0,
@@ -173,7 +176,7 @@ pub fn take(lanes: &mut [Lane], last: u32, lane: u32, out: &mut [u8]) -> u32
         × (now (lanes .exit) ≡ takeOf (lent (now (lanes .entry)) last) lane (now (out .entry)) .bench .lanes)
         × (now (out .exit) ≡ takenBytes (lent (now (lanes .entry)) last) lane (now (out .entry))) ⌝ }
 {
-    if lanes.len() != LANES {
+    if lanes.len() != RECORDS {
         return 10;
     }
     let all = gather(lanes);
@@ -185,7 +188,7 @@ pub fn close(lanes: &mut [Lane], last: u32, lane: u32) -> u32
     ensures { λ r. ⌜ (r ≡ closeOf (lent (now (lanes .entry)) last) lane .code)
         × (now (lanes .exit) ≡ closeOf (lent (now (lanes .entry)) last) lane .bench .lanes) ⌝ }
 {
-    if lanes.len() != LANES {
+    if lanes.len() != RECORDS {
         return 10;
     }
     let all = gather(lanes);
