@@ -1,6 +1,5 @@
 -- The laws, for the crates above.
-pub mod Truth
-pub mod Records
+pub mod Passed
 pub mod Soundness
 pub mod Seeking
 pub mod Made

@@ -12,12 +12,12 @@ use lib.Dec.{eqb, ltb}
 use lib.ListN.{length, drop, set, length-set, drop-of-length-le}
 use lib.Seq.{drop-cons, getD-set-same, getD-set-other}
 use borrow.Author.Tests.{eq-eqb, eqb-true, lt-ltb, ltb-true}
-use Rattle.bench.specs.declared.Lane.{Lane}
+use Rattle.lane_record.specs.declared.Lane.{Lane}
 use Rattle.bench.specs.declared.Bench.{Bench}
-use Rattle.bench.specs.Record.{soundLane}
+use Rattle.lane_record.specs.Record.{soundLane}
 use Rattle.bench.specs.Turning.{laneCount, laneAt}
 use Rattle.bench.specs.Calls.{allSound, soundBench, put}
-use Rattle.bench.proofs.Truth.{both, together}
+use Rattle.lane_record.proofs.Truth.{both, together}
 
 pub record Sound (b : Bench) : Type 0 where
   pub size : length (b .lanes) ≡ laneCount

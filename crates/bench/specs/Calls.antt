@@ -6,14 +6,14 @@ use lib.Dec.{eqb, leb, ltb}
 use lib.ListN.{length, set, replicate}
 use Rattle.published.specs.Bytes.{toBytes}
 use Rattle.primitives.specs.Packed.{blockOf}
-use Rattle.bench.specs.declared.Lane.{Lane}
+use Rattle.lane_record.specs.declared.Lane.{Lane}
 use Rattle.bench.specs.declared.Bench.{Bench}
 use Rattle.bench.specs.declared.Opened.{Opened}
 use Rattle.bench.specs.declared.Turned.{Turned}
 use Rattle.bench.specs.declared.Taken.{Taken}
 use Rattle.bench.specs.declared.Closed.{Closed}
-use Rattle.bench.specs.Record.{idle, finished, soundLane, idleWith, opened}
-use Rattle.bench.specs.Turning.{laneCount, laneAt, turnedBy, lacks, total}
+use Rattle.lane_record.specs.Record.{idle, finished, soundLane, idleWith, opened, lacks}
+use Rattle.bench.specs.Turning.{laneCount, laneAt, turnedBy, total}
 
 -- a fresh bench: all idle, all zero, the last lane the one last served
 unfoldable pub freshBench : Bench

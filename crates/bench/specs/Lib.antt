@@ -1,4 +1,3 @@
--- What a reader has to believe of the bench: a lane's record, whose turn it is, and what each call answers.
-pub mod Record
+-- What a reader has to believe of the bench: whose turn it is, and what each call answers.
 pub mod Turning
 pub mod Calls

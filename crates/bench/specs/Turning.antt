@@ -4,9 +4,9 @@ use mathlib.Core.List.{List, [], _∷_}
 use Prim.Native.Nat.{ℕ, zero, suc, _+_, _-_}
 use lib.Dec.{eqb, ltb}
 use lib.ListN.{getD, set}
-use Rattle.bench.specs.declared.Lane.{Lane}
+use Rattle.lane_record.specs.declared.Lane.{Lane}
 use Rattle.bench.specs.declared.Bench.{Bench}
-use Rattle.bench.specs.Record.{idle, running, noState, served}
+use Rattle.lane_record.specs.Record.{idle, running, noState, served}
 
 -- how many lanes a bench has
 unfoldable pub laneCount : ℕ
@@ -49,10 +49,6 @@ turnedBy (suc n) b = turnedBy n (turned b)
 unfoldable pub servedBy : ℕ → Bench → List ℕ
 servedBy zero b = []
 servedBy (suc n) b = cond (anyRuns b) (chosen b ∷ servedBy n (turned b)) []
-
--- the turns that a lane still lacks: 8 less its count if it runs
-unfoldable pub lacks : Lane → ℕ
-lacks l = cond (eqb (l .phase) running) (8 - l .count) 0
 
 -- a number of each lane, summed over all
 unfoldable pub total : (Lane → ℕ) → List Lane → ℕ

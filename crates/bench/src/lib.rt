@@ -1,14 +1,15 @@
 // Four lanes that take turns on one cipher, by value: a call is given a bench and gives back the bench after it, with a number that is 0 if it was done.
 use gift128::Gift128;
+use lane_record::Lane;
+use lane_record::idle_with;
+use lane_record::served;
+use lane_record::sound_lane;
 use packing::packing;
 use packing::unpacking;
-use primitives::State;
-use quintuple::inv_quintuple_round;
-use quintuple::quintuple_round;
 ghost use mathlib.Core.Path.{_≡_};
 ghost use Prim.Native.Nat.{_<_};
 ghost use lib.ListN.{length};
-ghost use Rattle.bench.specs.Record.{soundLane, idleWith, opened, advanced, served};
+ghost use Rattle.lane_record.specs.Record.{opened};
 ghost use Rattle.bench.specs.Turning.{laneCount, after, seek, chosen, turned, turnedBy, servedBy};
 ghost use Rattle.bench.specs.Calls.{freshBench, allSound, soundBench, put, idled, openOf, turnOf, takeOf, takenBytes, closeOf};
 
@@ -16,16 +17,6 @@ ghost use Rattle.bench.specs.Calls.{freshBench, allSound, soundBench, pu
 pub const LANES: usize = 4;
 
 const LAST: usize = LANES - 1;
-
-// Phase: 0 idle, 1 running, 2 finished. Direction: 0 encrypts, 1 decrypts. The count is of the lane's own turns.
-#[repr(C)]
-pub struct Lane {
-    pub phase: u8,
-    pub direction: u8,
-    pub count: u8,
-    pub words: [u32; 80],
-    pub state: State,
-}
 
 // The lanes, and the one last served.
 #[repr(C)]
@@ -61,26 +52,6 @@ pub struct Closed {
 }
 
 // ---- soundness
-
-fn sound_lane(l: Lane) -> bool
-    ensures { λ r. ⌜ r ≡ soundLane l ⌝ }
-{
-    let phase = l.phase;
-    let count = l.count;
-    if 1 < l.direction {
-        return false;
-    }
-    if phase == 0 {
-        return count == 0;
-    }
-    if phase == 1 {
-        return count <= 7;
-    }
-    if phase == 2 {
-        return count == 8;
-    }
-    false
-}
 
 fn all_sound(lanes: [Lane; LANES]) -> bool
     ensures { λ r. ⌜ r ≡ allSound lanes ⌝ }
@@ -135,51 +106,6 @@ fn seek(lanes: [Lane; LANES], from: usize) -> usize
     LANES
 }
 
-// One quintuple round more, over the words that start at twice its offset.
-fn advanced(l: Lane) -> State
-    requires { ⌜ l .count < 8 ⌝ }
-    ensures { λ r. ⌜ r ≡ advanced l ⌝ }
-{
-    let words = l.words;
-    let state = l.state;
-    let done = 5 * (l.count as usize);
-    if l.direction == 0 {
-        let from = 2 * done;
-        return quintuple_round(state, &words[from..], done);
-    }
-    let left = 35 - done;
-    let from = 2 * left;
-    inv_quintuple_round(state, &words[from..], left)
-}
-
-// A turn of the lane's own. (A count of 8 or more, which no sound running record has, stays as it is.)
-fn served(l: Lane) -> Lane
-    ensures { λ r. ⌜ r ≡ served l ⌝ }
-{
-    let count = l.count;
-    if 8 <= count {
-        return l;
-    }
-    let state = advanced(l);
-    let words = l.words;
-    if count == 7 {
-        return Lane {
-            phase: 2,
-            direction: l.direction,
-            count: count + 1,
-            words,
-            state,
-        };
-    }
-    Lane {
-        phase: 1,
-        direction: l.direction,
-        count: count + 1,
-        words,
-        state,
-    }
-}
-
 // One turn: the lane that it serves, or LANES where none runs, and the bench after it.
 struct One {
     lane: usize,
@@ -232,24 +158,6 @@ fn put(b: Bench, i: usize, l: Lane) -> Bench
     let mut bench = b;
     bench.lanes[i] = l;
     bench
-}
-
-fn idle_with(words: [u32; 80]) -> Lane
-    ensures { λ r. ⌜ r ≡ idleWith words ⌝ }
-{
-    let state = State {
-        s0: 0,
-        s1: 0,
-        s2: 0,
-        s3: 0,
-    };
-    Lane {
-        phase: 0,
-        direction: 0,
-        count: 0,
-        words,
-        state,
-    }
 }
 
 // The round words stay until the next opening.

@@ -8,10 +8,10 @@ use lib.ListN.{length}
 use borrow.Author.Tests.{eq-eqb, ne-eqb, eqb-true, leb-true, ltb-true}
 use Rattle.bits.proofs.Computed.{cond-true, cond-false}
 use Rattle.bench.specs.declared.Bench.{Bench}
-use Rattle.bench.specs.Record.{idle, finished, opened}
+use Rattle.lane_record.specs.Record.{idle, finished, opened}
 use Rattle.bench.specs.Turning.{laneCount, laneAt, turnedBy, servedBy}
 use Rattle.bench.specs.Calls.{soundBench, put, idled, openCode, openOf, turnCode, turnOf, takeCode, takeOf, closeCode, closeOf}
-use Rattle.bench.proofs.Truth.{passed}
+use Rattle.bench.proofs.Passed.{passed}
 use Rattle.bench.proofs.Soundness.{Sound, is-sound}
 use Rattle.bench_history.specs.History.{Call, opening, turning, taking, closing, codeOf, leaves, serves}
 

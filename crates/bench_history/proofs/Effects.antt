@@ -10,10 +10,10 @@ use lib.Dec.{eqb}
 use lib.ListN.{length, replicate}
 use borrow.Author.Tests.{eq-eqb, ne-eqb, eqb-false}
 use Rattle.bits.proofs.Computed.{cond-true, cond-false}
-use Rattle.bench.specs.declared.Lane.{Lane}
+use Rattle.lane_record.specs.declared.Lane.{Lane}
 use Rattle.bench.specs.declared.Bench.{Bench}
-use Rattle.bench.specs.Record.{idleWith, opened}
-use Rattle.bench.specs.Turning.{laneAt, chosen, anyRuns, turned, turnedBy, servedBy, lacks, total}
+use Rattle.lane_record.specs.Record.{idleWith, opened, lacks}
+use Rattle.bench.specs.Turning.{laneAt, chosen, anyRuns, turned, turnedBy, servedBy, total}
 use Rattle.bench.specs.Calls.{soundBench, put, idled, turnCode, turnOf, takeCode, takeOf, takenBytes}
 use Rattle.bench.proofs.Soundness.{Sound, is-sound, says-sound}
 use Rattle.bench.proofs.Seeking.{phase-runs, runs-any}

@@ -2,7 +2,7 @@
 use borrow.Author.Needs.{needs}
 use Rattle.packing.specs.Packing.{packed}
 use Rattle.gift128.specs.Calls.{newWords}
-use Rattle.bench.specs.Record.{opened}
+use Rattle.lane_record.specs.Record.{opened}
 use Rattle.bench.proofs.opened_lane.Statement.{statement}
 use Rattle.bench.proofs.opened_lane.Tie as tie
 

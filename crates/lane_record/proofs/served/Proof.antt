@@ -1,14 +1,14 @@
--- `bench::served` gives a lane a turn of its own.
+-- `lane_record::served` gives a lane a turn of its own.
 use mathlib.Core.Path.{sym, ap}
 use mathlib.Core.Bool.{Bool, cond}
 use Prim.Native.Nat.{_+_}
 use native.Mathlib.Omega.{arith}
 use borrow.Author.Needs.{needs}
 use borrow.Author.Tests.{le-ltb, eq-eqb, ne-eqb}
-use Rattle.bench.specs.Record.{running, finished, served}
-use Rattle.bench.proofs.Records.{served-by}
-use Rattle.bench.proofs.served.Statement.{statement}
-use Rattle.bench.proofs.served.Tie as tie
+use Rattle.lane_record.specs.Record.{running, finished, served}
+use Rattle.lane_record.proofs.Records.{served-by}
+use Rattle.lane_record.proofs.served.Statement.{statement}
+use Rattle.lane_record.proofs.served.Tie as tie
 
 returns : tie.Need-returns
 unfolding served

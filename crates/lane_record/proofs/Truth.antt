@@ -1,10 +1,9 @@
--- Tests that held: both sides of an `&&`, and every test of an order that refused nothing.
+-- Tests that held: both sides of an `&&`, a test that a call told, and a choice.
 use mathlib.Core.Path.{_≡_, refl, sym, _∙_}
 use mathlib.Core.Bool.{Bool, true, false, cond, not, _&&_, false≢true}
 use Prim.Native.Nat.{ℕ}
 use lib.Dec.{eqb}
 use borrow.Author.Tests.{eqb-false, not-true, not-false}
-use Rattle.bench.specs.Calls.{unless}
 
 pub both : (a b : Bool) → a && b ≡ true → (a ≡ true) × (b ≡ true)
 both true b e = (refl, e)
@@ -20,11 +19,6 @@ told-false {r} e h = sym e ∙ not-true r h
 
 pub told-true : {r t : Bool} → r ≡ t → not r ≡ false → t ≡ true
 told-true {r} e h = sym e ∙ not-false r h
-
--- one line of an order passed, n being no 0
-pub passed : (t : Bool) (n next : ℕ) → eqb n 0 ≡ false → unless t n next ≡ 0 → (t ≡ true) × (next ≡ 0)
-passed true n next z e = (refl, e)
-passed false n next z e = absurd (eqb-false n 0 z e)
 
 -- a fact of a choice, from the fact of either
 pub cond-either {ℓ κ} : {A : Type ℓ} (P : A → Type κ) (t : Bool) (x y : A) → (t ≡ true → P x) → (t ≡ false → P y) → P (cond t x y)

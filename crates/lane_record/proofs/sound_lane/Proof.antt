@@ -1,9 +1,9 @@
--- `bench::sound_lane` tells whether a record is sound.
+-- `lane_record::sound_lane` tells whether a record is sound.
 use borrow.Author.Tests.{le-leb, lt-leb}
-use Rattle.bench.specs.Record.{soundLane, soundCount}
-use Rattle.bench.proofs.Records.{no-phase}
-use Rattle.bench.proofs.sound_lane.Statement.{statement}
-use Rattle.bench.proofs.sound_lane.Tie as tie
+use Rattle.lane_record.specs.Record.{soundLane, soundCount}
+use Rattle.lane_record.proofs.Records.{no-phase}
+use Rattle.lane_record.proofs.sound_lane.Statement.{statement}
+use Rattle.lane_record.proofs.sound_lane.Tie as tie
 
 returns : tie.Need-returns
 unfolding soundLane

@@ -9,7 +9,7 @@ use Rattle.primitives.specs.declared.State.{State}
 use Rattle.primitives.specs.Packed.{stateOf}
 use Rattle.key_schedule.specs.Expand.{expanded}
 use Rattle.quintuple.specs.Quintuple.{quintupled, unquintupled}
-use Rattle.bench.specs.declared.Lane.{Lane}
+use Rattle.lane_record.specs.declared.Lane.{Lane}
 
 abbrev pub idle : ℕ
 idle = 0
@@ -61,3 +61,7 @@ served l =
       state = advanced l;
     })
     l
+
+-- the turns that a lane still lacks: 8 less its count if it runs
+unfoldable pub lacks : Lane → ℕ
+lacks l = cond (eqb (l .phase) running) (8 - l .count) 0

@@ -1,0 +1,3 @@
+-- The laws, for the crates above.
+pub mod Truth
+pub mod Records
