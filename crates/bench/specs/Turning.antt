@@ -1,7 +1,7 @@
 -- Whose turn it is: each turn serves the first running lane in cyclic order after the last served one.
 use mathlib.Core.Bool.{Bool, cond}
 use mathlib.Core.List.{List, [], _∷_}
-use Prim.Native.Nat.{ℕ, zero, suc, _+_, _-_}
+use Prim.Native.Nat.{ℕ, zero, suc, _+_}
 use lib.Dec.{eqb, ltb}
 use lib.ListN.{getD, set}
 use Rattle.lane_record.specs.declared.Lane.{Lane}

@@ -3,8 +3,10 @@ use mathlib.Core.Path.{_≡_, _∙_}
 use mathlib.Core.List.{List}
 use Prim.Native.Nat.{ℕ, _%_}
 use borrow.Author.Tests.{eq-eqb, ne-eqb}
+use lib.Dec.{eqb}
 use lib.ListN.{length}
 use Rattle.bits.proofs.Computed.{cond-true, cond-false}
+use Rattle.primitives.specs.Answer.{Gives}
 use Rattle.gift128.specs.Calls.{blockCode, keyCode, wordsCode, manyCode}
 
 module _ (block : List ℕ) where
@@ -41,6 +43,11 @@ module _ (ws block : List ℕ) where
   pub words-0 : length ws ≡ 80 → length block ≡ 16 → wordsCode ws block ≡ 0
   unfolding wordsCode
   words-0 w h = cond-true _ _ _ (eq-eqb (length ws) 80 w) ∙ block-0 block h
+
+-- where the words are eighty, as a `Gift128` keeps them, only the block's length is refused
+pub by-its-own : (ws block : List ℕ) {new : List ℕ} {r : ℕ} {e : List ℕ} → length ws ≡ 80 → Gives (wordsCode ws block) new block r e → Gives (blockCode block) new block r e
+unfolding wordsCode
+by-its-own ws block {new} {r} {e} w g = rw (cond-true (eqb (length ws) 80) (blockCode block) 4 (eq-eqb (length ws) 80 w)) at g
 
 module _ (key input output : List ℕ) where
   pub many-1 : (length key ≡ 16 → ⊥) → manyCode key input output ≡ 1

@@ -11,8 +11,11 @@ use Rattle.published.specs.Bytes.{fromBytes, toBytes}
 use Rattle.published.specs.Rounds.{Pair, rounds, unrounds}
 use Rattle.published.specs.Gift128.{pairsOf, encrypted, decrypted}
 use Rattle.published.proofs.Reading.{Bytes}
+use Rattle.published.proofs.Steps.{width128}
+use Rattle.published.proofs.Undone.{rounds-lt, unrounds-lt}
 use Rattle.published.proofs.Gift128.{block-lt}
 use Rattle.primitives.specs.Packed.{blockOf, stateOf}
+use Rattle.primitives.specs.Arranged.{pairsFrom}
 use Rattle.primitives.specs.declared.State.{State}
 use Rattle.primitives.proofs.Blocks.{blockOf-stateOf}
 use Rattle.primitives.proofs.Pairs.{first-pair}
@@ -22,6 +25,7 @@ use Rattle.packing.proofs.Inverse.{packed-block, unpacked-block}
 use Rattle.key_schedule.specs.Expand.{expandCode, expanded}
 use Rattle.key_schedule.proofs.Expanded.{pairs-of-expanded, length-expanded}
 use Rattle.gift128.specs.Calls.{encryptedBy, decryptedBy, newWords}
+use Rattle.gift128.specs.Ways.{roundsBy, crossedBy, crossed}
 
 -- what f does to the state, the call does to the bytes
 pub through : (f : ℕ → ℕ) (s t : State) (input output e : List ℕ) → ((x : ℕ) → x < 2 ^ 128 → f x < 2 ^ 128) → length input ≡ 16 → Bytes input → length output ≡ 16
@@ -32,14 +36,20 @@ through f s t input output e f-lt len h len′ packs goes unpacks =
     unpacks ∙ unpacked-block t output len′
     ∙ ap (toBytes 16) (ap blockOf (goes ∙ ap (λ (x : ℕ). stateOf (f x)) read) ∙ blockOf-stateOf (f (fromBytes input)) (f-lt (fromBytes input) x-lt))
 
--- by the words of a key it is the published cipher
-pub encrypted-key : (key block : List ℕ) → encryptedBy (expanded key) block ≡ encrypted key block
-unfolding encryptedBy encrypted
-encrypted-key key block = ap (λ (ps : List Pair). toBytes 16 (rounds 128 1 ps 0 (fromBytes block))) (pairs-of-expanded key)
+-- the same by round words, either way: e stands in the output
+pub crossing : (back : Bool) (ws : List ℕ) (s t : State) (input output e : List ℕ) → length input ≡ 16 → Bytes input → length output ≡ 16
+    → s ≡ packed input → t ≡ stateOf (roundsBy back ws (blockOf s)) → e ≡ unpacked t output → e ≡ crossedBy back ws input
+unfolding encryptedBy decryptedBy
+crossing false ws s t input output e len h len′ packs goes unpacks =
+    through (roundsBy false ws) s t input output e (rounds-lt 128 1 width128 (pairsFrom 0 ws) 0) len h len′ packs goes unpacks
+crossing true ws s t input output e len h len′ packs goes unpacks =
+    through (roundsBy true ws) s t input output e (unrounds-lt 128 1 width128 (pairsFrom 0 ws) 0) len h len′ packs goes unpacks
 
-pub decrypted-key : (key block : List ℕ) → decryptedBy (expanded key) block ≡ decrypted key block
-unfolding decryptedBy decrypted
-decrypted-key key block = ap (λ (ps : List Pair). toBytes 16 (unrounds 128 1 ps 0 (fromBytes block))) (pairs-of-expanded key)
+-- by the words of a key it is the published cipher
+pub crossed-key : (back : Bool) (key block : List ℕ) → crossedBy back (expanded key) block ≡ crossed back key block
+unfolding encryptedBy encrypted decryptedBy decrypted
+crossed-key false key block = ap (λ (ps : List Pair). toBytes 16 (rounds 128 1 ps 0 (fromBytes block))) (pairs-of-expanded key)
+crossed-key true key block = ap (λ (ps : List Pair). toBytes 16 (unrounds 128 1 ps 0 (fromBytes block))) (pairs-of-expanded key)
 
 -- eighty words lent to expansion by a good key become the key's; by a bad one they stay
 pub filled : (key ws : List ℕ) → length key ≡ 16 → length ws ≡ 80 → cond (eqb (expandCode key ws) 0) (expanded key) ws ≡ expanded key

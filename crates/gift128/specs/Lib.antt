@@ -1,2 +1,3 @@
 -- What each call of the cipher answers.
 pub mod Calls
+pub mod Ways

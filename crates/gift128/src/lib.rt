@@ -10,6 +10,7 @@ ghost use Rattle.primitives.specs.Arranged.{pairsFrom};
 ghost use Rattle.primitives.specs.Answer.{Gives};
 ghost use Rattle.gift128.specs.Calls.{blockCode, keyCode, wordsCode, manyCode, newCode, newWords};
 ghost use Rattle.gift128.specs.Calls.{encryptedBy, decryptedBy, afterOne, allBlocks};
+ghost use Rattle.gift128.specs.Ways.{roundsBy, crossedBy, crossed};
 use key_schedule::precompute_rkeys;
 use packing::packing;
 use packing::unpacking;
@@ -52,23 +53,15 @@ impl Gift128 {
     pub fn encrypt_block(self, block: &mut [u8]) -> u32
         ensures { λ r. ⌜ Gives (blockCode (now (block .entry))) (encryptedBy (self .k) (now (block .entry))) (now (block .entry)) r (now (block .exit)) ⌝ }
     {
-        if block.len() != Gift128::BLOCK_SIZE {
-            return 2;
-        }
         let k = self.k;
-        encrypt_in_place(&k, block);
-        0
+        encrypt_by_words(&k, block)
     }
 
     pub fn decrypt_block(self, block: &mut [u8]) -> u32
         ensures { λ r. ⌜ Gives (blockCode (now (block .entry))) (decryptedBy (self .k) (now (block .entry))) (now (block .entry)) r (now (block .exit)) ⌝ }
     {
-        if block.len() != Gift128::BLOCK_SIZE {
-            return 2;
-        }
         let k = self.k;
-        decrypt_in_place(&k, block);
-        0
+        decrypt_by_words(&k, block)
     }
 }
 
@@ -102,32 +95,32 @@ fn decrypt_state(s: State, rkey: &[u32]) -> State
     state
 }
 
-// One block by eighty words, in place.
-fn encrypt_in_place(rkey: &[u32], block: &mut [u8])
+// Encrypting and decrypting differ in this alone: whether the rounds are done or undone.
+fn through(s: State, rkey: &[u32], back: bool) -> State
+    requires { ⌜ length (now rkey) ≡ 80 ⌝ }
+    ensures { λ r. ⌜ r ≡ stateOf (roundsBy back (now (rkey .entry)) (blockOf s)) ⌝ }
+{
+    if back {
+        return decrypt_state(s, rkey);
+    }
+    encrypt_state(s, rkey)
+}
+
+// ---- one block
+
+// By eighty words, in place.
+fn in_place(rkey: &[u32], block: &mut [u8], back: bool)
     requires { ⌜ length (now rkey) ≡ 80 ⌝ }
     requires { ⌜ length (now block) ≡ 16 ⌝ }
-    ensures { λ r. ⌜ now (block .exit) ≡ encryptedBy (now (rkey .entry)) (now (block .entry)) ⌝ }
+    ensures { λ r. ⌜ now (block .exit) ≡ crossedBy back (now (rkey .entry)) (now (block .entry)) ⌝ }
 {
     let s = packing(block);
-    let sealed = encrypt_state(s, rkey);
-    unpacking(sealed, block);
+    let t = through(s, rkey, back);
+    unpacking(t, block);
 }
 
-// And from one buffer to another.
-fn encrypt_into(rkey: &[u32], input: &[u8], output: &mut [u8])
-    requires { ⌜ length (now rkey) ≡ 80 ⌝ }
-    requires { ⌜ length (now input) ≡ 16 ⌝ }
-    requires { ⌜ length (now output) ≡ 16 ⌝ }
-    ensures { λ r. ⌜ now (output .exit) ≡ encryptedBy (now (rkey .entry)) (now (input .entry)) ⌝ }
-{
-    let s = packing(input);
-    let sealed = encrypt_state(s, rkey);
-    unpacking(sealed, output);
-}
-
-// One block by round words, any eighty. Refusals: 4, 2.
-pub fn encrypt_by_words(rkey: &[u32], block: &mut [u8]) -> u32
-    ensures { λ r. ⌜ Gives (wordsCode (now (rkey .entry)) (now (block .entry))) (encryptedBy (now (rkey .entry)) (now (block .entry))) (now (block .entry)) r (now (block .exit)) ⌝ }
+fn by_words(rkey: &[u32], block: &mut [u8], back: bool) -> u32
+    ensures { λ r. ⌜ Gives (wordsCode (now (rkey .entry)) (now (block .entry))) (crossedBy back (now (rkey .entry)) (now (block .entry))) (now (block .entry)) r (now (block .exit)) ⌝ }
 {
     if rkey.len() != 80 {
         return 4;
@@ -135,7 +128,35 @@ pub fn encrypt_by_words(rkey: &[u32], block: &mut [u8]) -> u32
     if block.len() != Gift128::BLOCK_SIZE {
         return 2;
     }
-    encrypt_in_place(rkey, block);
+    in_place(rkey, block, back);
+    0
+}
+
+// One block by round words, any eighty. Refusals: 4, 2.
+pub fn encrypt_by_words(rkey: &[u32], block: &mut [u8]) -> u32
+    ensures { λ r. ⌜ Gives (wordsCode (now (rkey .entry)) (now (block .entry))) (encryptedBy (now (rkey .entry)) (now (block .entry))) (now (block .entry)) r (now (block .exit)) ⌝ }
+{
+    by_words(rkey, block, false)
+}
+
+pub fn decrypt_by_words(rkey: &[u32], block: &mut [u8]) -> u32
+    ensures { λ r. ⌜ Gives (wordsCode (now (rkey .entry)) (now (block .entry))) (decryptedBy (now (rkey .entry)) (now (block .entry))) (now (block .entry)) r (now (block .exit)) ⌝ }
+{
+    by_words(rkey, block, true)
+}
+
+fn by_key(key: &[u8], block: &mut [u8], back: bool) -> u32
+    ensures { λ r. ⌜ Gives (keyCode (now (key .entry)) (now (block .entry))) (crossed back (now (key .entry)) (now (block .entry))) (now (block .entry)) r (now (block .exit)) ⌝ }
+{
+    if key.len() != Gift128::KEY_SIZE {
+        return 1;
+    }
+    if block.len() != Gift128::BLOCK_SIZE {
+        return 2;
+    }
+    let mut rkey = [0u32; 80];
+    precompute_rkeys(key, &mut rkey);
+    in_place(&rkey, block, back);
     0
 }
 
@@ -143,69 +164,13 @@ pub fn encrypt_by_words(rkey: &[u32], block: &mut [u8]) -> u32
 pub fn encrypt_by_key(key: &[u8], block: &mut [u8]) -> u32
     ensures { λ r. ⌜ Gives (keyCode (now (key .entry)) (now (block .entry))) (encrypted (now (key .entry)) (now (block .entry))) (now (block .entry)) r (now (block .exit)) ⌝ }
 {
-    if key.len() != Gift128::KEY_SIZE {
-        return 1;
-    }
-    if block.len() != Gift128::BLOCK_SIZE {
-        return 2;
-    }
-    let mut rkey = [0u32; 80];
-    precompute_rkeys(key, &mut rkey);
-    encrypt_in_place(&rkey, block);
-    0
+    by_key(key, block, false)
 }
 
-// One block by eighty words, in place.
-fn decrypt_in_place(rkey: &[u32], block: &mut [u8])
-    requires { ⌜ length (now rkey) ≡ 80 ⌝ }
-    requires { ⌜ length (now block) ≡ 16 ⌝ }
-    ensures { λ r. ⌜ now (block .exit) ≡ decryptedBy (now (rkey .entry)) (now (block .entry)) ⌝ }
-{
-    let s = packing(block);
-    let opened = decrypt_state(s, rkey);
-    unpacking(opened, block);
-}
-
-// And from one buffer to another.
-fn decrypt_into(rkey: &[u32], input: &[u8], output: &mut [u8])
-    requires { ⌜ length (now rkey) ≡ 80 ⌝ }
-    requires { ⌜ length (now input) ≡ 16 ⌝ }
-    requires { ⌜ length (now output) ≡ 16 ⌝ }
-    ensures { λ r. ⌜ now (output .exit) ≡ decryptedBy (now (rkey .entry)) (now (input .entry)) ⌝ }
-{
-    let s = packing(input);
-    let opened = decrypt_state(s, rkey);
-    unpacking(opened, output);
-}
-
-// One block by round words, any eighty. Refusals: 4, 2.
-pub fn decrypt_by_words(rkey: &[u32], block: &mut [u8]) -> u32
-    ensures { λ r. ⌜ Gives (wordsCode (now (rkey .entry)) (now (block .entry))) (decryptedBy (now (rkey .entry)) (now (block .entry))) (now (block .entry)) r (now (block .exit)) ⌝ }
-{
-    if rkey.len() != 80 {
-        return 4;
-    }
-    if block.len() != Gift128::BLOCK_SIZE {
-        return 2;
-    }
-    decrypt_in_place(rkey, block);
-    0
-}
-
-// One block by a key. Refusals: 1, 2.
 pub fn decrypt_by_key(key: &[u8], block: &mut [u8]) -> u32
     ensures { λ r. ⌜ Gives (keyCode (now (key .entry)) (now (block .entry))) (decrypted (now (key .entry)) (now (block .entry))) (now (block .entry)) r (now (block .exit)) ⌝ }
 {
-    if key.len() != Gift128::KEY_SIZE {
-        return 1;
-    }
-    if block.len() != Gift128::BLOCK_SIZE {
-        return 2;
-    }
-    let mut rkey = [0u32; 80];
-    precompute_rkeys(key, &mut rkey);
-    decrypt_in_place(&rkey, block);
-    0
+    by_key(key, block, true)
 }
 
 // The state after round 1, by a key. Refusals: 1, 2.
@@ -226,70 +191,62 @@ pub fn one_round(key: &[u8], block: &mut [u8]) -> u32
     0
 }
 
+// ---- many blocks
+
+// One block by eighty words, from one buffer to another.
+fn into(rkey: &[u32], input: &[u8], output: &mut [u8], back: bool)
+    requires { ⌜ length (now rkey) ≡ 80 ⌝ }
+    requires { ⌜ length (now input) ≡ 16 ⌝ }
+    requires { ⌜ length (now output) ≡ 16 ⌝ }
+    ensures { λ r. ⌜ now (output .exit) ≡ crossedBy back (now (rkey .entry)) (now (input .entry)) ⌝ }
+{
+    let s = packing(input);
+    let t = through(s, rkey, back);
+    unpacking(t, output);
+}
+
 // Block n of the output from block n of the input.
-fn encrypt_all(rkey: &[u32], input: &[u8], output: &mut [u8])
+fn all(rkey: &[u32], input: &[u8], output: &mut [u8], back: bool)
     requires { ⌜ length (now rkey) ≡ 80 ⌝ }
     requires { ⌜ length (now input) % 16 ≡ 0 ⌝ }
     requires { ⌜ length (now output) ≡ length (now input) ⌝ }
-    ensures { λ r. ⌜ now (output .exit) ≡ allBlocks (encryptedBy (now (rkey .entry))) (now (input .entry)) ⌝ }
+    ensures { λ r. ⌜ now (output .exit) ≡ allBlocks (crossedBy back (now (rkey .entry))) (now (input .entry)) ⌝ }
 {
     let mut a: usize = 0;
     while a < input.len() {
         let e = a + 16;
-        encrypt_into(rkey, &input[a..e], &mut output[a..e]);
+        into(rkey, &input[a..e], &mut output[a..e], back);
         a = e;
     }
+}
+
+fn many_by_key(key: &[u8], input: &[u8], output: &mut [u8], back: bool) -> u32
+    ensures { λ r. ⌜ Gives (manyCode (now (key .entry)) (now (input .entry)) (now (output .entry))) (allBlocks (crossed back (now (key .entry))) (now (input .entry))) (now (output .entry)) r (now (output .exit)) ⌝ }
+{
+    if key.len() != Gift128::KEY_SIZE {
+        return 1;
+    }
+    if input.len() % 16 != 0 {
+        return 2;
+    }
+    if output.len() != input.len() {
+        return 3;
+    }
+    let mut rkey = [0u32; 80];
+    precompute_rkeys(key, &mut rkey);
+    all(&rkey, input, output, back);
+    0
 }
 
 // Many blocks by a key. Refusals: 1, 2, 3.
 pub fn encrypt_blocks(key: &[u8], input: &[u8], output: &mut [u8]) -> u32
     ensures { λ r. ⌜ Gives (manyCode (now (key .entry)) (now (input .entry)) (now (output .entry))) (allBlocks (encrypted (now (key .entry))) (now (input .entry))) (now (output .entry)) r (now (output .exit)) ⌝ }
 {
-    if key.len() != Gift128::KEY_SIZE {
-        return 1;
-    }
-    if input.len() % 16 != 0 {
-        return 2;
-    }
-    if output.len() != input.len() {
-        return 3;
-    }
-    let mut rkey = [0u32; 80];
-    precompute_rkeys(key, &mut rkey);
-    encrypt_all(&rkey, input, output);
-    0
+    many_by_key(key, input, output, false)
 }
 
-// Block n of the output from block n of the input.
-fn decrypt_all(rkey: &[u32], input: &[u8], output: &mut [u8])
-    requires { ⌜ length (now rkey) ≡ 80 ⌝ }
-    requires { ⌜ length (now input) % 16 ≡ 0 ⌝ }
-    requires { ⌜ length (now output) ≡ length (now input) ⌝ }
-    ensures { λ r. ⌜ now (output .exit) ≡ allBlocks (decryptedBy (now (rkey .entry))) (now (input .entry)) ⌝ }
-{
-    let mut a: usize = 0;
-    while a < input.len() {
-        let e = a + 16;
-        decrypt_into(rkey, &input[a..e], &mut output[a..e]);
-        a = e;
-    }
-}
-
-// Many blocks by a key. Refusals: 1, 2, 3.
 pub fn decrypt_blocks(key: &[u8], input: &[u8], output: &mut [u8]) -> u32
     ensures { λ r. ⌜ Gives (manyCode (now (key .entry)) (now (input .entry)) (now (output .entry))) (allBlocks (decrypted (now (key .entry))) (now (input .entry))) (now (output .entry)) r (now (output .exit)) ⌝ }
 {
-    if key.len() != Gift128::KEY_SIZE {
-        return 1;
-    }
-    if input.len() % 16 != 0 {
-        return 2;
-    }
-    if output.len() != input.len() {
-        return 3;
-    }
-    let mut rkey = [0u32; 80];
-    precompute_rkeys(key, &mut rkey);
-    decrypt_all(&rkey, input, output);
-    0
+    many_by_key(key, input, output, true)
 }

@@ -7,9 +7,6 @@ use Rattle.bench.proofs.Seeking.{after-in, after-end}
 use Rattle.bench.proofs.after.Statement.{statement}
 use Rattle.bench.proofs.after.Tie as tie
 
-add-result : tie.Need-add-result
-add-result c = search needs
-
 returns : tie.Need-returns
 unfolding laneCount
 returns c = sym (after-in (c .before .args .i) (omega arith))
@@ -19,4 +16,4 @@ unfolding laneCount
 returns-2 c = sym (after-end (c .before .args .i) (omega arith))
 
 pub after-spec : {M : Type 1} → statement M
-after-spec = tie.close (tie.spec add-result returns returns-2)
+after-spec = tie.close (tie.spec (λ c. search needs) returns returns-2)

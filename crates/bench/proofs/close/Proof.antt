@@ -8,9 +8,6 @@ use Rattle.lane_record.proofs.Truth.{told-false, told-true}
 use Rattle.bench.proofs.close.Statement.{statement}
 use Rattle.bench.proofs.close.Tie as tie
 
-sound-requires : tie.Need-sound-requires
-sound-requires c κs = search needs
-
 returns : tie.Need-returns
 unfolding closeOf closeCode
 returns c = rw (told-false (c .before .sound .ensures) (c .if1 .taken))
@@ -29,4 +26,4 @@ returns-3 c =
     rw (told-true (c .before .before .before .sound .ensures) (c .before .before .if1 .left), lt-ltb _ laneCount (c .before .if2 .left), c .idled .ensures)
 
 pub close-spec : {M : Type 1} → statement M
-close-spec = tie.close (tie.spec sound-requires returns returns-2 idled-requires returns-3)
+close-spec = tie.close (tie.spec (λ c κs. search needs) returns returns-2 idled-requires returns-3)

@@ -5,15 +5,9 @@ use Rattle.bench.specs.Calls.{freshBench}
 use Rattle.bench.proofs.fresh.Statement.{statement}
 use Rattle.bench.proofs.fresh.Tie as tie
 
-idle-with-requires : tie.Need-idle-with-requires
-idle-with-requires c κs = search needs
-
-cast-t4 : tie.Need-cast-t4
-cast-t4 c = search needs
-
 returns : tie.Need-returns
 unfolding freshBench laneCount
 returns c = rw (c .idle-with .ensures)
 
 pub fresh-spec : {M : Type 1} → statement M
-fresh-spec = tie.close (tie.spec idle-with-requires cast-t4 returns)
+fresh-spec = tie.close (tie.spec (λ c κs. search needs) (λ c. search needs) returns)

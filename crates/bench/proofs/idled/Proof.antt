@@ -15,15 +15,9 @@ element-copy-out-l : tie.Need-element-copy-out-l
 unfolding laneCount
 element-copy-out-l c = c .pre
 
-idle-with-requires : tie.Need-idle-with-requires
-idle-with-requires c κs = search needs
-
-put-requires : tie.Need-put-requires
-put-requires c κs = search needs
-
 returns : tie.Need-returns
 unfolding idled
 returns c = c .put .ensures ∙ ap (put _ _) (c .before .idle-with .ensures)
 
 pub idled-spec : {M : Type 1} → statement M
-idled-spec = tie.close (tie.spec mul-l element-copy-out-l idle-with-requires put-requires returns)
+idled-spec = tie.close (tie.spec mul-l element-copy-out-l (λ c κs. search needs) (λ c κs. search needs) returns)

@@ -8,9 +8,6 @@ use Rattle.lane_record.proofs.Truth.{told-false, told-true}
 use Rattle.bench.proofs.open_lane.Statement.{statement}
 use Rattle.bench.proofs.open_lane.Tie as tie
 
-sound-requires : tie.Need-sound-requires
-sound-requires c κs = search needs
-
 returns : tie.Need-returns
 unfolding openOf openCode
 returns c = rw (told-false (c .before .sound .ensures) (c .if1 .taken))
@@ -20,12 +17,6 @@ unfolding openOf openCode laneCount
 returns-2 c =
     let at = c .before in
     rw (told-true (at .before .sound .ensures) (at .if1 .left), le-ltb _ laneCount (c .if2 .taken))
-
-mul-l : tie.Need-mul-l
-mul-l c = search needs
-
-element-copy-out-l : tie.Need-element-copy-out-l
-element-copy-out-l c = search needs
 
 returns-3 : tie.Need-returns-3
 unfolding openOf openCode laneCount
@@ -64,12 +55,6 @@ returns-6 c =
       ne-eqb _ 16 (c .if6 .taken),
     )
 
-cast-opened-lane : tie.Need-cast-opened-lane
-cast-opened-lane c = search needs
-
-opened-lane-requires : tie.Need-opened-lane-requires
-opened-lane-requires c κs = search needs
-
 put-requires : tie.Need-put-requires
 unfolding laneCount
 put-requires c κs = omega arith
@@ -93,16 +78,16 @@ pub open-lane-spec : {M : Type 1} → statement M
 open-lane-spec =
     tie.close
     (tie.spec
-    sound-requires
+    (λ c κs. search needs)
     returns
     returns-2
-    mul-l
-    element-copy-out-l
+    (λ c. search needs)
+    (λ c. search needs)
     returns-3
     returns-4
     returns-5
     returns-6
-    cast-opened-lane
-    opened-lane-requires
+    (λ c. search needs)
+    (λ c κs. search needs)
     put-requires
     returns-7)

@@ -6,12 +6,6 @@ use Rattle.lane_record.specs.Record.{opened}
 use Rattle.bench.proofs.opened_lane.Statement.{statement}
 use Rattle.bench.proofs.opened_lane.Tie as tie
 
-new-requires : tie.Need-new-requires
-new-requires c κs = search needs
-
-packing-requires : tie.Need-packing-requires
-packing-requires c κs = search needs
-
 returns : tie.Need-returns
 unfolding opened newWords packed
 returns c =
@@ -19,4 +13,4 @@ returns c =
     rw (c .before .before .before .new .ensures .1, start .pre .0, c .packing .ensures, start .pre .1)
 
 pub opened-lane-spec : {M : Type 1} → statement M
-opened-lane-spec = tie.close (tie.spec new-requires packing-requires returns)
+opened-lane-spec = tie.close (tie.spec (λ c κs. search needs) (λ c κs. search needs) returns)

@@ -15,12 +15,6 @@ use Rattle.bench.proofs.sound.Tie as tie
 unmapped : (X Y : Type 0) (f : X → Y) (l : List X) (n : ℕ) → length (map f l) ≡ n → length l ≡ n
 unmapped X Y f l n e = sym (length-map l f) ∙ e
 
-cast-if1 : tie.Need-cast-if1
-cast-if1 c = search needs
-
-all-sound-requires : tie.Need-all-sound-requires
-all-sound-requires c κs = search needs
-
 returns : tie.Need-returns
 unfolding laneCount soundBench
 returns c =
@@ -36,4 +30,4 @@ returns-2 c =
     rw (eq-eqb (length (b .lanes)) laneCount long, le-ltb (b .last) laneCount (omega arith))
 
 pub sound-spec : {M : Type 1} → statement M
-sound-spec = tie.close (tie.spec cast-if1 all-sound-requires returns returns-2)
+sound-spec = tie.close (tie.spec (λ c. search needs) (λ c κs. search needs) returns returns-2)

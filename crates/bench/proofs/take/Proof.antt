@@ -10,9 +10,6 @@ use Rattle.lane_record.proofs.Truth.{told-false, told-true}
 use Rattle.bench.proofs.take.Statement.{statement}
 use Rattle.bench.proofs.take.Tie as tie
 
-sound-requires : tie.Need-sound-requires
-sound-requires c κs = search needs
-
 returns : tie.Need-returns
 unfolding takeOf takenBytes takeCode
 returns c =
@@ -26,12 +23,6 @@ returns-2 c =
     let sound = told-true (at .before .sound .ensures) (at .if1 .left) in
     let none = le-ltb _ laneCount (c .if2 .taken) in
     (rw (sound, none), rw (sound, none))
-
-mul-l : tie.Need-mul-l
-mul-l c = search needs
-
-element-copy-out-l : tie.Need-element-copy-out-l
-element-copy-out-l c = search needs
 
 returns-3 : tie.Need-returns-3
 unfolding takeOf takenBytes takeCode laneCount
@@ -51,15 +42,9 @@ returns-4 c =
     let long = ne-eqb _ 16 (c .if4 .taken) in
     (rw (sound, lane, c .before .if3 .left, long), rw (sound, lane, c .before .if3 .left, long))
 
-unpacking-requires : tie.Need-unpacking-requires
-unpacking-requires c κs = search needs
-
 idled-requires : tie.Need-idled-requires
 unfolding laneCount
 idled-requires c κs = omega arith
-
-same-length : tie.Need-same-length
-same-length c = search needs
 
 returns-5 : tie.Need-returns-5
 unfolding takeOf takenBytes takeCode laneCount unpacked
@@ -76,14 +61,14 @@ pub take-spec : {M : Type 1} → statement M
 take-spec =
     tie.close
     (tie.spec
-    sound-requires
+    (λ c κs. search needs)
     returns
     returns-2
-    mul-l
-    element-copy-out-l
+    (λ c. search needs)
+    (λ c. search needs)
     returns-3
     returns-4
-    unpacking-requires
+    (λ c κs. search needs)
     idled-requires
-    same-length
+    (λ c. search needs)
     returns-5)

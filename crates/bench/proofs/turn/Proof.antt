@@ -8,9 +8,6 @@ use Rattle.lane_record.proofs.Truth.{told-false, told-true}
 use Rattle.bench.proofs.turn.Statement.{statement}
 use Rattle.bench.proofs.turn.Tie as tie
 
-sound-requires : tie.Need-sound-requires
-sound-requires c κs = search needs
-
 returns : tie.Need-returns
 unfolding turnOf turnCode
 returns c = rw (told-false (c .before .sound .ensures) (c .if1 .taken))
@@ -18,9 +15,6 @@ returns c = rw (told-false (c .before .sound .ensures) (c .if1 .taken))
 returns-2 : tie.Need-returns-2
 unfolding turnOf turnCode
 returns-2 c = rw (told-true (c .before .before .sound .ensures) (c .before .if1 .left), lt-leb _ 1024 (c .if2 .taken))
-
-turns-requires : tie.Need-turns-requires
-turns-requires c κs = search needs
 
 returns-3 : tie.Need-returns-3
 unfolding turnOf turnCode
@@ -30,4 +24,4 @@ returns-3 c =
     rw (sound, le-leb _ 1024 (c .before .before .if2 .left), c .before .turns .ensures .0, c .before .turns .ensures .1, made-is _ _ (is-sound _ sound))
 
 pub turn-spec : {M : Type 1} → statement M
-turn-spec = tie.close (tie.spec sound-requires returns returns-2 turns-requires returns-3)
+turn-spec = tie.close (tie.spec (λ c κs. search needs) returns returns-2 (λ c κs. search needs) returns-3)

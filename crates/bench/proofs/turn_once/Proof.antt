@@ -14,32 +14,8 @@ found : (b : Bench) {i n : ℕ} → i ≡ after (b .last) → n ≡ seek laneCou
 unfolding chosen
 found b e f = f ∙ ap (seek laneCount (b .lanes)) e
 
-cast-after : tie.Need-cast-after
-cast-after c = search needs
-
-after-requires : tie.Need-after-requires
-after-requires c κs = search needs
-
 seek-requires : tie.Need-seek-requires
 seek-requires c κs = rw (c .after .ensures) (after-lt _)
-
-mul-served : tie.Need-mul-served
-mul-served c = search needs
-
-array-copy-out-served : tie.Need-array-copy-out-served
-array-copy-out-served c = search needs
-
-served-requires : tie.Need-served-requires
-served-requires c κs = search needs
-
-mul-t14 : tie.Need-mul-t14
-mul-t14 c = search needs
-
-element-set-from-bench : tie.Need-element-set-from-bench
-element-set-from-bench c = search needs
-
-cast-bench : tie.Need-cast-bench
-cast-bench c = search needs
 
 returns : tie.Need-returns
 unfolding laneCount
@@ -59,14 +35,14 @@ pub turn-once-spec : {M : Type 1} → statement M
 turn-once-spec =
     tie.close
     (tie.spec
-    cast-after
-    after-requires
+    (λ c. search needs)
+    (λ c κs. search needs)
     seek-requires
-    mul-served
-    array-copy-out-served
-    served-requires
-    mul-t14
-    element-set-from-bench
-    cast-bench
+    (λ c. search needs)
+    (λ c. search needs)
+    (λ c κs. search needs)
+    (λ c. search needs)
+    (λ c. search needs)
+    (λ c. search needs)
     returns
     returns-2)

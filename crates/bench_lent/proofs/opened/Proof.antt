@@ -5,11 +5,8 @@ use Rattle.bench.specs.declared.Opened.{Opened}
 use Rattle.bench_lent.proofs.opened.Statement.{statement}
 use Rattle.bench_lent.proofs.opened.Tie as tie
 
-open-lane-requires : tie.Need-open-lane-requires
-open-lane-requires c κs = search needs
-
 returns : tie.Need-returns
 returns c = let e = c .before .before .open-lane .ensures in (ap (λ (r : Opened). r .code) e, ap (λ (r : Opened). r .bench .lanes) e)
 
 pub opened-spec : {M : Type 1} → statement M
-opened-spec = tie.close (tie.spec open-lane-requires returns)
+opened-spec = tie.close (tie.spec (λ c κs. search needs) returns)

@@ -5,15 +5,9 @@ use Rattle.bench.specs.declared.Taken.{Taken}
 use Rattle.bench_lent.proofs.taken.Statement.{statement}
 use Rattle.bench_lent.proofs.taken.Tie as tie
 
-take-requires : tie.Need-take-requires
-take-requires c κs = search needs
-
-same-length : tie.Need-same-length
-same-length c = search needs
-
 returns : tie.Need-returns
 returns c =
     let e = c .before .before .before .before .take .ensures in (ap (λ (r : Taken). r .code) (e .0), ap (λ (r : Taken). r .bench .lanes) (e .0), e .1)
 
 pub taken-spec : {M : Type 1} → statement M
-taken-spec = tie.close (tie.spec take-requires same-length returns)
+taken-spec = tie.close (tie.spec (λ c κs. search needs) (λ c. search needs) returns)

@@ -16,31 +16,10 @@ use Rattle.lane_record.proofs.advanced.Tie as tie
 to-end : (ws : List ℕ) → length ws ≡ 80 → (a : ℕ) → take (80 - a) (drop a ws) ≡ drop a ws
 to-end ws e a = ap (λ (n : ℕ). take (n - a) (drop a ws)) (sym e) ∙ part-to-end ws a
 
-cast-done : tie.Need-cast-done
-cast-done c = search needs
-
-mul-done : tie.Need-mul-done
-mul-done c = search needs
-
-mul-from : tie.Need-mul-from
-mul-from c = search needs
-
-mul-quintuple-round : tie.Need-mul-quintuple-round
-mul-quintuple-round c = search needs
-
-sub-quintuple-round : tie.Need-sub-quintuple-round
-sub-quintuple-round c = search needs
-
-part-quintuple-round-start : tie.Need-part-quintuple-round-start
-part-quintuple-round-start c = search needs
-
 part-quintuple-round-end : tie.Need-part-quintuple-round-end
 part-quintuple-round-end c =
     let long : length (c .before .before .before .before .before .before .args .l .words) ≡ 80 = search needs in
     le-of-eq (sym long)
-
-quintuple-round-requires : tie.Need-quintuple-round-requires
-quintuple-round-requires c κs = search needs
 
 returns : tie.Need-returns
 unfolding advanced
@@ -49,28 +28,10 @@ returns c =
     let long : length (l .words) ≡ 80 = search needs in
     c .quintuple-round .ensures ∙ (rw (c .before .before .before .if1 .taken) (ap (λ (ws : List ℕ). quintupled (l .state) ws (5 * l .count)) (to-end (l .words) long (2 * (5 * l .count)))))
 
-sub-left : tie.Need-sub-left
-sub-left c = search needs
-
-mul-from-2 : tie.Need-mul-from-2
-mul-from-2 c = search needs
-
-mul-inv-quintuple-round : tie.Need-mul-inv-quintuple-round
-mul-inv-quintuple-round c = search needs
-
-sub-inv-quintuple-round : tie.Need-sub-inv-quintuple-round
-sub-inv-quintuple-round c = search needs
-
-part-inv-quintuple-round-start : tie.Need-part-inv-quintuple-round-start
-part-inv-quintuple-round-start c = search needs
-
 part-inv-quintuple-round-end : tie.Need-part-inv-quintuple-round-end
 part-inv-quintuple-round-end c =
     let long : length (c .before .before .before .before .before .before .args .l .words) ≡ 80 = search needs in
     le-of-eq (sym long)
-
-inv-quintuple-round-requires : tie.Need-inv-quintuple-round-requires
-inv-quintuple-round-requires c κs = search needs
 
 returns-2 : tie.Need-returns-2
 unfolding advanced
@@ -84,20 +45,20 @@ pub advanced-spec : {M : Type 1} → statement M
 advanced-spec =
     tie.close
     (tie.spec
-    cast-done
-    mul-done
-    mul-from
-    mul-quintuple-round
-    sub-quintuple-round
-    part-quintuple-round-start
+    (λ c. search needs)
+    (λ c. search needs)
+    (λ c. search needs)
+    (λ c. search needs)
+    (λ c. search needs)
+    (λ c. search needs)
     part-quintuple-round-end
-    quintuple-round-requires
+    (λ c κs. search needs)
     returns
-    sub-left
-    mul-from-2
-    mul-inv-quintuple-round
-    sub-inv-quintuple-round
-    part-inv-quintuple-round-start
+    (λ c. search needs)
+    (λ c. search needs)
+    (λ c. search needs)
+    (λ c. search needs)
+    (λ c. search needs)
     part-inv-quintuple-round-end
-    inv-quintuple-round-requires
+    (λ c κs. search needs)
     returns-2)

@@ -14,20 +14,11 @@ returns : tie.Need-returns
 unfolding served
 returns c = rw (le-ltb _ 8 (c .if1 .taken))
 
-advanced-requires : tie.Need-advanced-requires
-advanced-requires c κs = search needs
-
-add-t6 : tie.Need-add-t6
-add-t6 c = search needs
-
 returns-2 : tie.Need-returns-2
 returns-2 c =
     let l = c .before .before .before .before .args .l in
     served-by l finished _ (c .before .before .before .if1 .left)
     (sym (ap (λ (t : Bool). cond t finished running) (eq-eqb (l .count + 1) 8 (omega arith)))) (c .before .before .advanced .ensures)
-
-add-t7 : tie.Need-add-t7
-add-t7 c = search needs
 
 returns-3 : tie.Need-returns-3
 returns-3 c =
@@ -36,4 +27,4 @@ returns-3 c =
     (sym (ap (λ (t : Bool). cond t finished running) (ne-eqb (l .count + 1) 8 (omega arith)))) (c .before .before .advanced .ensures)
 
 pub served-spec : {M : Type 1} → statement M
-served-spec = tie.close (tie.spec returns advanced-requires add-t6 returns-2 add-t7 returns-3)
+served-spec = tie.close (tie.spec returns (λ c κs. search needs) (λ c. search needs) returns-2 (λ c. search needs) returns-3)

@@ -20,19 +20,10 @@ returns c =
     (ap (λ (n : ℕ). permuted (rorIn 32 n) (c .before .args .x)) (c .if1 .taken)
     ∙ permuted-id (rorIn 32 0) (c .before .args .x) (agree 32 (rorIn 32 0) (λ i. i) tt) (c .before .fits .x .fits))
 
-shr-result : tie.Need-shr-result
-shr-result c = search needs
-
-sub-result : tie.Need-sub-result
-sub-result c = search needs
-
-shl-result : tie.Need-shl-result
-shl-result c = search needs
-
 returns-2 : tie.Need-returns-2
 returns-2 c =
     let n : ℕ = c .before .args .y % 32 in
     moves (rorIn 32 n) (turned n) (at 32 (λ k. isMove (rorIn 32 k) (turned k)) tt n (mod-lt (c .before .args .y) (lit< tt))) (c .before .args .x) (c .before .fits .x .fits)
 
 pub ror-spec : {M : Type 1} → statement M
-ror-spec = tie.close (tie.spec returns shr-result sub-result shl-result returns-2)
+ror-spec = tie.close (tie.spec returns (λ c. search needs) (λ c. search needs) (λ c. search needs) returns-2)

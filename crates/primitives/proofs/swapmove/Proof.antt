@@ -5,12 +5,6 @@ use Rattle.primitives.proofs.Swaps.{swap-low, swap-high}
 use Rattle.primitives.proofs.swapmove.Statement.{statement}
 use Rattle.primitives.proofs.swapmove.Tie as tie
 
-shr-tmp : tie.Need-shr-tmp
-shr-tmp c = search needs
-
-shl-up : tie.Need-shl-up
-shl-up c = search needs
-
 returns : tie.Need-returns
 returns c = (
   swap-high (c .args .a) (c .args .b) (c .args .mask) (c .args .n % 32) (c .fits .a .fits) (c .fits .b .fits) (c .fits .mask .fits),
@@ -18,4 +12,4 @@ returns c = (
 )
 
 pub swapmove-spec : {M : Type 1} → statement M
-swapmove-spec = tie.close (tie.spec shr-tmp shl-up returns)
+swapmove-spec = tie.close (tie.spec (λ c. search needs) (λ c. search needs) returns)

@@ -5,14 +5,8 @@ use Rattle.primitives.proofs.Swaps.{swap-single}
 use Rattle.primitives.proofs.swapmovesingle.Statement.{statement}
 use Rattle.primitives.proofs.swapmovesingle.Tie as tie
 
-shr-tmp : tie.Need-shr-tmp
-shr-tmp c = search needs
-
-shl-up : tie.Need-shl-up
-shl-up c = search needs
-
 returns : tie.Need-returns
 returns c = swap-single (c .args .a) (c .args .mask) (c .args .n % 32) (c .fits .a .fits) (c .fits .mask .fits)
 
 pub swapmovesingle-spec : {M : Type 1} → statement M
-swapmovesingle-spec = tie.close (tie.spec shr-tmp shl-up returns)
+swapmovesingle-spec = tie.close (tie.spec (λ c. search needs) (λ c. search needs) returns)

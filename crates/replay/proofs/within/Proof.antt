@@ -1,5 +1,4 @@
 -- `within` counts bytes of s.
-use borrow.Author.Needs.{needs}
 use Rattle.io.proofs.Counting.{counts}
 use native.Mathlib.Omega.{arith}
 use Rattle.replay.proofs.within.Statement.{statement}

@@ -1,27 +1,17 @@
--- `gift128::Gift128::encrypt_block`: its one refusal, and the block by the words that it keeps.
+-- `gift128::Gift128::encrypt_block`: the block by the words that it keeps, which are eighty.
 use borrow.Author.Needs.{needs}
 use denote.Ref.{now}
-use Rattle.primitives.proofs.Outcome.{refuses, done}
-use Rattle.gift128.proofs.Answers.{block-2, block-0}
+use mathlib.Core.Path.{_≡_}
+use lib.ListN.{length}
+use Rattle.gift128.proofs.Answers.{by-its-own}
 use Rattle.gift128.proofs.Gift128.encrypt_block.Statement.{statement}
 use Rattle.gift128.proofs.Gift128.encrypt_block.Tie as tie
 
 returns : tie.Need-returns
 returns c =
-    let a = c .before .before .args in
-    refuses 1 _ _ _ (block-2 (now (a .block)) (c .if1 .taken))
-
-returns-2 : tie.Need-returns-2
-returns-2 c =
-    let a = c .before .before .before .before .before .before .before .before .args in
-    done _ _ _ _ (block-0 (now (a .block)) (c .before .before .before .before .before .before .if1 .left)) (c .before .before .encrypt-in-place .ensures)
+    let start = c .before .before .before .before .before .before .before in
+    let long : length (start .args .self .k) ≡ 80 = search needs in
+    by-its-own (start .args .self .k) (now (start .args .block)) long (c .before .before .encrypt-by-words .ensures)
 
 pub encrypt-block-spec : {M : Type 1} → statement M
-encrypt-block-spec =
-    tie.close
-    (tie.spec
-    returns
-    (λ c. search needs)
-    (λ c κs. search needs)
-    (λ c. search needs)
-    returns-2)
+encrypt-block-spec = tie.close (tie.spec (λ c. search needs) (λ c κs. search needs) (λ c. search needs) returns)

@@ -26,12 +26,6 @@ at-round r h =
     agree 40 (λ k. getD (ruled 40 0) k 0) (λ k. constantWord (k % 5) k) tt r h
     ∙ sym (ap (λ (b : Bool). cond b (constantWord (r % 5) r) 0) (lt-ltb r 40 h))
 
-mul-result : tie.Need-mul-result
-mul-result c = search needs
-
-array-read-result : tie.Need-array-read-result
-array-read-result c = search needs
-
 returns : tie.Need-returns
 unfolding digit number bit ofBits P step constant permuted N nibbleAt arranged constantWord
 returns c = at-round (c .before .args .r) (c .if1 .taken)
@@ -40,4 +34,4 @@ returns-2 : tie.Need-returns-2
 returns-2 c = sym (ap (λ (b : Bool). cond b (constantWord (c .before .args .r % 5) (c .before .args .r)) 0) (le-ltb (c .before .args .r) 40 (c .if1 .left)))
 
 pub round-constant-spec : {M : Type 1} → statement M
-round-constant-spec = tie.close (tie.spec mul-result array-read-result returns returns-2)
+round-constant-spec = tie.close (tie.spec (λ c. search needs) (λ c. search needs) returns returns-2)

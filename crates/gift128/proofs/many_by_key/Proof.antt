@@ -1,15 +1,16 @@
--- `gift128::encrypt_blocks`: its refusals in their order, and each block by the words of the key.
+-- `gift128::many_by_key`: its refusals in their order, and each block by the words of the key.
 use borrow.Author.Needs.{needs}
 use mathlib.Core.Path.{refl, ap, fun-ext, _∙_}
 use mathlib.Core.List.{List}
 use Prim.Native.Nat.{ℕ}
 use denote.Ref.{now}
-use Rattle.gift128.specs.Calls.{encryptedBy, allBlocks}
+use Rattle.gift128.specs.Calls.{allBlocks}
+use Rattle.gift128.specs.Ways.{crossedBy}
 use Rattle.primitives.proofs.Outcome.{refuses, done}
 use Rattle.gift128.proofs.Answers.{many-1, many-2, many-3, many-0}
-use Rattle.gift128.proofs.Blocks.{filled, encrypted-key}
-use Rattle.gift128.proofs.encrypt_blocks.Statement.{statement}
-use Rattle.gift128.proofs.encrypt_blocks.Tie as tie
+use Rattle.gift128.proofs.Blocks.{filled, crossed-key}
+use Rattle.gift128.proofs.many_by_key.Statement.{statement}
+use Rattle.gift128.proofs.many_by_key.Tie as tie
 
 returns : tie.Need-returns
 returns c =
@@ -33,11 +34,11 @@ returns-4 c =
     let key : List ℕ = now (a .key) in
     let input : List ℕ = now (a .input) in
     done _ _ _ _ (many-0 (now (a .key)) (now (a .input)) (now (a .output)) (d .before .before .if1 .left) (d .before .if2 .left) (d .if3 .left))
-    (c .before .before .encrypt-all .ensures ∙ ap (λ (ws : List ℕ). allBlocks (encryptedBy ws) input) (c .before .before .before .before .before .before .precompute-rkeys .ensures .leaves ∙ filled key _ (d .before .before .if1 .left) refl)
-    ∙ ap (λ (f : List ℕ → List ℕ). allBlocks f input) (fun-ext (encrypted-key key)))
+    (c .before .before .all .ensures ∙ ap (λ (ws : List ℕ). allBlocks (crossedBy (a .back) ws) input) (c .before .before .before .before .before .before .precompute-rkeys .ensures .leaves ∙ filled key _ (d .before .before .if1 .left) refl)
+    ∙ ap (λ (f : List ℕ → List ℕ). allBlocks f input) (fun-ext (crossed-key (a .back) key)))
 
-pub encrypt-blocks-spec : {M : Type 1} → statement M
-encrypt-blocks-spec =
+pub many-by-key-spec : {M : Type 1} → statement M
+many-by-key-spec =
     tie.close
     (tie.spec
     returns

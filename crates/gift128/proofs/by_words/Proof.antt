@@ -1,10 +1,10 @@
--- `gift128::decrypt_by_words`: its refusals in their order, and the block.
+-- `gift128::by_words`: its refusals in their order, and the block.
 use borrow.Author.Needs.{needs}
 use denote.Ref.{now}
 use Rattle.primitives.proofs.Outcome.{refuses, done}
 use Rattle.gift128.proofs.Answers.{words-4, words-2, words-0}
-use Rattle.gift128.proofs.decrypt_by_words.Statement.{statement}
-use Rattle.gift128.proofs.decrypt_by_words.Tie as tie
+use Rattle.gift128.proofs.by_words.Statement.{statement}
+use Rattle.gift128.proofs.by_words.Tie as tie
 
 returns : tie.Need-returns
 returns c =
@@ -19,8 +19,8 @@ returns-2 c =
 returns-3 : tie.Need-returns-3
 returns-3 c =
     let a = c .before .before .before .before .before .before .before .before .args in
-    done _ _ _ _ (words-0 (now (a .rkey)) (now (a .block)) (c .before .before .before .before .before .if1 .left) (c .before .before .before .before .if2 .left)) (c .before .before .decrypt-in-place .ensures)
+    done _ _ _ _ (words-0 (now (a .rkey)) (now (a .block)) (c .before .before .before .before .before .if1 .left) (c .before .before .before .before .if2 .left)) (c .before .before .in-place .ensures)
 
-pub decrypt-by-words-spec : {M : Type 1} → statement M
-decrypt-by-words-spec =
+pub by-words-spec : {M : Type 1} → statement M
+by-words-spec =
     tie.close (tie.spec returns returns-2 (λ c κs. search needs) (λ c. search needs) returns-3)

@@ -1,4 +1,4 @@
--- `gift128::encrypt_all`: the blocks before place a are written.
+-- `gift128::all`: the blocks before place a are written.
 use mathlib.Core.Path.{_≡_, refl, sym, _∙_}
 use mathlib.Core.List.{List}
 use Prim.Native.Nat.{ℕ, _+_, _-_, _/_, _%_, _≤_}
@@ -6,23 +6,24 @@ use native.Mathlib.Omega.{arith}
 use borrow.Rule.Slice.PartMut.{same-len-mid}
 use denote.Ref.{now}
 use lib.ListN.{length, take}
-use Rattle.gift128.specs.Calls.{encryptedBy, eachBlock}
+use Rattle.gift128.specs.Calls.{eachBlock}
+use Rattle.gift128.specs.Ways.{crossedBy}
 use Rattle.gift128.proofs.Many.{each-none, sixteen, one-more, all-written}
-use Rattle.gift128.proofs.encrypt_all.Statement.{statement}
-use Rattle.gift128.proofs.encrypt_all.Tie as tie
+use Rattle.gift128.proofs.all.Statement.{statement}
+use Rattle.gift128.proofs.all.Tie as tie
 
 abbrev Inv-loop : tie.InvT-loop
-Inv-loop rkey input output₀ a₀ output a =
-    (a % 16 ≡ 0) × (a ≤ length input) × (length output ≡ length output₀) × (take a output ≡ eachBlock (encryptedBy rkey) (a / 16) input)
+Inv-loop rkey input output₀ back a₀ output a =
+    (a % 16 ≡ 0) × (a ≤ length input) × (length output ≡ length output₀) × (take a output ≡ eachBlock (crossedBy back rkey) (a / 16) input)
 
 abbrev μ-loop : tie.MeasureT-loop
-μ-loop rkey input output₀ a₀ output a = length input - a
+μ-loop rkey input output₀ back a₀ output a = length input - a
 
 loop-holds : tie.Need-loop-holds Inv-loop μ-loop
 loop-holds c = (refl, omega arith, refl, sym (each-none _ _))
 
-encrypt-into-requires : tie.Need-encrypt-into-requires Inv-loop μ-loop
-encrypt-into-requires c κs =
+into-requires : tie.Need-into-requires Inv-loop μ-loop
+into-requires c κs =
     let l = c .before .before .before .loop in
     let start = c .before .before .before .before .before .before .before in
     let room : l .a + 16 ≤ length (now (start .args .input)) = omega arith in
@@ -31,7 +32,7 @@ encrypt-into-requires c κs =
 
 loop-again : tie.Need-loop-again Inv-loop μ-loop
 loop-again c =
-    let call = c .before .before .encrypt-into in
+    let call = c .before .before .into in
     let l = c .before .before .before .before .before .before .loop in
     let start = c .before .before .before .before .before .before .before .before .before .before in
     let input : List ℕ = now (start .args .input) in
@@ -40,17 +41,17 @@ loop-again c =
       omega arith,
       omega arith,
       same-len-mid (l .a) (l .a + 16 - l .a) (l .output) (call .last .1 .1 .0) (call .kept .1 .1 .0) ∙ l .inv .2,
-      one-more (encryptedBy (now (start .args .rkey))) input (l .output) (call .last .1 .1 .0) _ (l .a) (l .inv .0) (omega arith) len (l .inv .3) (call .ensures),
+      one-more (crossedBy (start .args .back) (now (start .args .rkey))) input (l .output) (call .last .1 .1 .0) _ (l .a) (l .inv .0) (omega arith) len (l .inv .3) (call .ensures),
     )
 
 returns : tie.Need-returns Inv-loop μ-loop
 returns c =
     let l = c .before .loop in
     let start = c .before .before .before .before .before in
-    all-written (encryptedBy (now (start .args .rkey))) (now (start .args .input)) (l .output) (l .a) (omega arith) (omega arith) (l .inv .3)
+    all-written (crossedBy (start .args .back) (now (start .args .rkey))) (now (start .args .input)) (l .output) (l .a) (omega arith) (omega arith) (l .inv .3)
 
-pub encrypt-all-spec : {M : Type 1} → statement M
-encrypt-all-spec =
+pub all-spec : {M : Type 1} → statement M
+all-spec =
     tie.close
     (tie.spec
     Inv-loop
@@ -63,7 +64,7 @@ encrypt-all-spec =
     (λ c. omega arith)
     (λ c. omega arith)
     (λ c. omega arith)
-    encrypt-into-requires
+    into-requires
     (λ c. omega arith)
     loop-again
     (λ c. omega arith)
