@@ -1,11 +1,14 @@
 // What a host links, under C names: each function hands its arguments on to the proved call of the same meaning and gives back its answer.
 // The host's side of it is include/gift_host.h.
+use bench::Lane;
 ghost use mathlib.Core.Path.{_≡_};
 ghost use denote.Ref.{now};
 ghost use Rattle.published.specs.Gift128.{encrypted, decrypted};
 ghost use Rattle.primitives.specs.Answer.{Gives};
 ghost use Rattle.key_schedule.specs.Expand.{expandCode, expanded};
 ghost use Rattle.gift128.specs.Calls.{keyCode, wordsCode, manyCode, encryptedBy, decryptedBy, allBlocks};
+ghost use Rattle.bench.specs.Calls.{openOf, turnOf, takeOf, takenBytes, closeOf};
+ghost use Rattle.bench_lent.specs.Lent.{lent, turnsOf};
 
 // One block by a key, in place. Refusals: 1, 2.
 #[no_mangle]
@@ -58,4 +61,12 @@ pub extern "C" fn gift_decrypt_blocks(key: &[u8], input: &[u8], output: &mut [u8
     ensures { λ r. ⌜ Gives (manyCode (now (key .entry)) (now (input .entry)) (now (output .entry))) (allBlocks (decrypted (now (key .entry))) (now (input .entry))) (now (output .entry)) r (now (output .exit)) ⌝ }
 {
     gift128::decrypt_blocks(key, input, output)
+}
+
+#[no_mangle]
+pub extern "C" fn gift_close(lanes: &mut [Lane], last: u32, lane: u32) -> u32
+    ensures { λ r. ⌜ (r ≡ closeOf (lent (now (lanes .entry)) last) lane .code)
+        × (now (lanes .exit) ≡ closeOf (lent (now (lanes .entry)) last) lane .bench .lanes) ⌝ }
+{
+    bench_lent::close(lanes, last, lane)
 }

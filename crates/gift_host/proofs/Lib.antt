@@ -1,0 +1,2 @@
+-- What the functions share that hand lent records on.
+pub mod Passing
