@@ -41,7 +41,10 @@ module _ {M : Type 1} (𝓤 : URA M) (H : Heap 𝓤) (A : Atoms 𝓤) (at-mem : 
       (λ κs qs bounds a g are.
       let y : asked .Ghost = ((κs, qs, bounds, a, (slice-vals (a .0), (uint-vals w32 (a .1 .0), (uint-vals w32 (a .1 .1 .0), (slice-vals (a .1 .1 .1 .0), tt))))), g) in
       qed W (raw (asked .pre y) ∷ []) ∵ enter ! (𝓣 .C) (𝓣 .Λ) code.function (asked .args y) _ $
-      allocated ! (λ l. params1 ! $ pass1 ! (init ! 14 refl (tt, (tt, (record { fits = are .0 .0 .1 .0 }, tt)))) $ pass1 ! (init ! 12 refl (tt, record { fits = are .1 .0 .1 })) $ pass1 ! (init ! 10 refl (tt, record { fits = are .1 .1 .0 .1 })) $ pass1 ! (init ! 8 refl (tt, (tt, (record { fits = are .1 .1 .1 .0 .0 .1 .0 }, tt)))) $ pass0 ! $
+      allocated ! (λ l. params1 ! $
+      pass1 ! (init ! 14 refl (tt, (tt, (record { fits = are .0 .0 .1 .0 }, tt)))) $
+      pass1 ! (init ! 12 refl (tt, record { fits = are .1 .0 .1 })) $ pass1 ! (init ! 10 refl (tt, record { fits = are .1 .1 .0 .1 })) $
+      pass1 ! (init ! 8 refl (tt, (tt, (record { fits = are .1 .1 .1 .0 .0 .1 .0 }, tt)))) $ pass0 ! $
       -- [_8; …; _7; …; …; _0; …; what is asked]
       move ! (14 ∷ 6 ∷ 4 ∷ []) $ relent ! refl refl refl (are .0 .0 .1 .0) $
       -- [_1; _5; _6; _8; …; _7; …; of _6; of _5; _4; …; _3; …; _2; …; of _1; _0; …; what is asked]
@@ -58,4 +61,4 @@ unfolding code.routine
 gift-take-spec 𝓤 H 𝓜 𝓖 𝓡 =
     let c : Spec 𝓤 take.signature = take.spec 𝓤 H (𝓖 .A) (𝓜 .mem) (𝓡 .run) in
     relays 𝓤 H 𝓜 𝓖 𝓡 take.signature c code.env #gift-host·gift-take #bench-lent·take code.function take-def.routine (code.unfolded 𝓤 H 𝓜 𝓡) code.calls-bench-lent·take (take-thm.met 𝓤 H 𝓜 𝓖 𝓡)
-    (λ W 𝓣 known. passes 𝓤 H (𝓖 .A) (𝓜 .mem) (𝓡 .run) W 𝓣 known)
+    (passes 𝓤 H (𝓖 .A) (𝓜 .mem) (𝓡 .run))
