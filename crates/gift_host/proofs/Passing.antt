@@ -2,7 +2,7 @@
 --     handed       the run meets the contract, from a walk at the parameters' machine values written out and with their relations in hand: `Denote/Triple/Walked.antt`'s `walked`, of the contract itself
 --     hands-on     the call: its answer, of the result's type, is in local 0
 --     relays       how the function's theorem follows from the callee's and from such a walk
--- It says nothing of the crate, and can be copied as it stands. Assumes `Given`, and that the table of calls is monotone under a frame.
+-- Assumes `Given`, and that the table of calls is monotone under a frame.
 use mathlib.Core.Path.{_≡_, refl}
 use Prim.Native.Nat.{ℕ}
 use mathlib.Core.List.{List, [], _∷_}
@@ -16,7 +16,7 @@ use base.Fml.{fat, froom}
 use prog.Model.{Model}
 use prog.Routine.{Routine, Env as Routines}
 use prog.Wp.{Heap, Env, Calls, Loops, WpFn, Closed, Tables, spotOf}
-use ghost.Atoms.{Atoms, sem}
+use ghost.Atoms.{Atoms}
 use sound.WpLaws.{FmC}
 use contract.Monad.{Fun}
 use contract.Lifetimes.{Lfts, Shares, AllOutlive}
