@@ -1,0 +1,153 @@
+/* GIFT-128 for hosts: the functions of libgift_host.a, which `rt staticlib gift_host` writes for x86-64 Linux.
+ *
+ * Every function is proved to answer as said here for all lengths, numbers, bytes and records. There is nothing to set up
+ * or tear down, and nothing is kept between calls: all memory is the host's, and is lent for the length of one call. Calls
+ * on different memory may run at the same time. The library takes no heap and some ten KiB of stack, and calls nothing
+ * but memcpy and memset.
+ *
+ * A call answers 0 (GIFT_DONE) or the number of a refusal. Refusals are tried in the order given with each function, and
+ * the first that applies is the one given. After a refusal everything lent is as it was before the call.
+ *
+ * What the host owes, since no callee can test it:
+ *   - a pointer is not null and is aligned for its type, also with length 0, where it may point anywhere else;
+ *   - as many elements as the length says lie there, each with a value, in less than 2^63 bytes;
+ *   - during the call nobody else writes to them, or even reads them where the pointer is not to const;
+ *   - two buffers of one call do not overlap, unless both are const.
+ * A wrong length, number or record is no such fault: it is refused.
+ *
+ * Where the compiler has no headers of its own, declare uint8_t, uint32_t and size_t and define GIFT_HOST_NO_INCLUDES first.
+ */
+#ifndef GIFT_HOST_H
+#define GIFT_HOST_H
+
+#ifndef GIFT_HOST_NO_INCLUDES
+#include <stddef.h>
+#include <stdint.h>
+#endif
+
+#ifdef __cplusplus
+extern "C" {
+#endif
+
+#define GIFT_BLOCK_SIZE 16 /* bytes of a block */
+#define GIFT_KEY_SIZE 16   /* bytes of a key */
+#define GIFT_WORDS 80      /* round words of a key */
+
+/* The numbers given back. */
+#define GIFT_DONE 0
+#define GIFT_BAD_KEY_LENGTH 1    /* the key is not of 16 bytes */
+#define GIFT_BAD_BLOCK_LENGTH 2  /* a block or take buffer is not of 16 bytes; many blocks: input not a multiple of 16 */
+#define GIFT_BAD_OUTPUT_LENGTH 3 /* the output is not as long as the input */
+#define GIFT_BAD_WORD_COUNT 4    /* the round words are not 80 */
+#define GIFT_BAD_LANE 5          /* a lane number above 3 */
+#define GIFT_LANE_NOT_IDLE 6     /* opening a lane that is not idle */
+#define GIFT_LANE_NOT_FINISHED 7 /* taking from a lane that is not finished */
+#define GIFT_TOO_MANY_TURNS 8    /* more than 1,024 turns asked */
+#define GIFT_BAD_DIRECTION 9     /* a direction that is neither 0 nor 1 */
+#define GIFT_BAD_BENCH 10        /* not four records, last served above 3, or a record that is not sound */
+
+/* ---- one block, in place ---- */
+
+/* By a key. Refusals: 1, 2. */
+uint32_t gift_encrypt_by_key(const uint8_t *key, size_t key_len, uint8_t *block, size_t block_len);
+uint32_t gift_decrypt_by_key(const uint8_t *key, size_t key_len, uint8_t *block, size_t block_len);
+
+/* By 80 round words: those of gift_expand, which saves expanding the key for every block, or any others. Refusals: 4, 2. */
+uint32_t gift_encrypt_by_words(const uint32_t *words, size_t words_len, uint8_t *block, size_t block_len);
+uint32_t gift_decrypt_by_words(const uint32_t *words, size_t words_len, uint8_t *block, size_t block_len);
+
+/* Fills words with the 80 round words of a key. Refusals: 1, 4. */
+uint32_t gift_expand(const uint8_t *key, size_t key_len, uint32_t *words, size_t words_len);
+
+/* ---- many blocks, from one buffer to another ---- */
+
+/* Block n of the output from block n of the input, each by itself. Length 0 is done and writes nothing. Refusals: 1, 2, 3. */
+uint32_t gift_encrypt_blocks(const uint8_t *key, size_t key_len, const uint8_t *input, size_t input_len,
+                             uint8_t *output, size_t output_len);
+uint32_t gift_decrypt_blocks(const uint8_t *key, size_t key_len, const uint8_t *input, size_t input_len,
+                             uint8_t *output, size_t output_len);
+
+/* ---- the bench: four lanes that take turns ----
+ *
+ * A bench is four lane records, lent as one array, and the number of the lane last served. A fresh one has all records
+ * zero and the last served number GIFT_FRESH_LAST. The host keeps both. It passes the last served number by value;
+ * only gift_turn moves it, and gives the new one back.
+ *
+ * A record is sound if its direction is 0 or 1 and it is idle with count 0, running with count 0 to 7, or finished with
+ * count 8. Every call looks at all four and refuses with 10 if one is not sound; none repairs it.
+ */
+
+#define GIFT_LANES 4           /* records of a bench */
+#define GIFT_FRESH_LAST 3      /* the last served number of a fresh bench */
+#define GIFT_MOST_TURNS 1024   /* that one call may ask for */
+#define GIFT_TURNS_OF_A_LANE 8 /* from its opening until it is finished */
+
+#define GIFT_ENCRYPT 0
+#define GIFT_DECRYPT 1
+
+#define GIFT_IDLE 0
+#define GIFT_RUNNING 1
+#define GIFT_FINISHED 2
+
+/* A block's four words: bit i of word j is bit 4i+j of the block, whose first byte is the most significant. */
+typedef struct gift_state {
+    uint32_t s0, s1, s2, s3;
+} gift_state;
+
+/* One lane: 340 bytes, aligned to 4. The byte at 3 is padding and no part of the record: any call may change it. */
+typedef struct gift_lane {
+    uint8_t phase;              /* at 0: GIFT_IDLE, GIFT_RUNNING or GIFT_FINISHED */
+    uint8_t direction;          /* at 1: GIFT_ENCRYPT or GIFT_DECRYPT */
+    uint8_t count;              /* at 2: its own turns since it was opened */
+    uint32_t words[GIFT_WORDS]; /* at 4: its round words */
+    gift_state state;           /* at 324: its block, as far as it has come */
+} gift_lane;
+
+/* What a call for turns tells. */
+typedef struct gift_turns {
+    uint32_t code; /* 0, or the refusal */
+    uint32_t made; /* how many turns were made; 0 on a refusal */
+    uint32_t last; /* the last served number from now on; the one passed, if no turn was made */
+} gift_turns;
+
+/* Opens an idle lane on a key and a block: it runs from here, with count 0. Neither is needed after the call: the record
+ * holds the key's round words and the block. Refusals: 10, 5, 6, 9, 1, 2. */
+uint32_t gift_open_lane(gift_lane *lanes, size_t lanes_len, uint32_t last, uint32_t lane, uint32_t direction,
+                        const uint8_t *key, size_t key_len, const uint8_t *block, size_t block_len);
+
+/* Makes as many turns as are asked for, or fewer if no lane runs any more. Each serves the first running lane after the last
+ * served one, in cyclic order, by five rounds, and its eighth finishes it. Asking for 0 is done. An opened lane that is not
+ * closed is finished no later than the 32nd turn made after its opening, whatever the other lanes do. Refusals: 10, 8. */
+gift_turns gift_turn(gift_lane *lanes, size_t lanes_len, uint32_t last, uint32_t asked);
+
+/* Writes the 16 bytes of a finished lane, which is idle afterwards: direction, count and state 0. Its round words stay in
+ * the record until it is opened again. Refusals: 10, 5, 7, 2. */
+uint32_t gift_take(gift_lane *lanes, size_t lanes_len, uint32_t last, uint32_t lane, uint8_t *out, size_t out_len);
+
+/* Makes a lane idle as after a take, whatever it was. Refusals: 10, 5. */
+uint32_t gift_close(gift_lane *lanes, size_t lanes_len, uint32_t last, uint32_t lane);
+
+/* The layout above, held to the compiler's where it can say so. */
+#if defined(__cplusplus) && __cplusplus >= 201103L
+#define GIFT_HOST_HOLDS(test) static_assert(test, #test)
+#elif defined(__STDC_VERSION__) && __STDC_VERSION__ >= 201112L
+#define GIFT_HOST_HOLDS(test) _Static_assert(test, #test)
+#endif
+#ifdef GIFT_HOST_HOLDS
+GIFT_HOST_HOLDS(sizeof(gift_state) == 16);
+GIFT_HOST_HOLDS(sizeof(gift_lane) == 340);
+GIFT_HOST_HOLDS(sizeof(gift_turns) == 12);
+#ifdef offsetof
+GIFT_HOST_HOLDS(offsetof(gift_lane, direction) == 1);
+GIFT_HOST_HOLDS(offsetof(gift_lane, count) == 2);
+GIFT_HOST_HOLDS(offsetof(gift_lane, words) == 4);
+GIFT_HOST_HOLDS(offsetof(gift_lane, state) == 324);
+#endif
+#undef GIFT_HOST_HOLDS
+#endif
+
+#ifdef __cplusplus
+}
+#endif
+
+#endif
