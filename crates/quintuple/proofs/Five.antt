@@ -1,12 +1,12 @@
 -- Five rounds, one after the other: what the proofs of the two quintuple rounds chain.
 use mathlib.Core.Path.{_≡_, refl, sym, ap, ap₂, _∙_}
-use mathlib.Core.Bool.{Bool, cond, true, false, _&&_}
+use mathlib.Core.Bool.{Bool, cond, true, false, _&&_, false≢true}
 use mathlib.Core.List.{List, [], _∷_}
 use Prim.Native.Nat.{ℕ, zero, suc, _+_, _-_, _/_, _%_, _^_, _≤_, _<_, suc-le-suc}
 use native.Mathlib.Nat.{le-of-suc-le-suc, not-suc-le-zero}
 use native.Mathlib.Omega.{arith}
-use borrow.Author.Tests.{lt-ltb, le-leb, lt-leb, eq-eqb, ne-eqb}
-use lib.Dec.{ltb, leb, eqb}
+use borrow.Author.Tests.{lt-ltb, le-leb, lt-leb, eq-eqb, leb-true, eqb-true}
+use lib.Dec.{ltb, leb, eqb, lit<}
 use lib.ListN.{length, getD, take}
 use Rattle.bits.specs.Digit.{bit}
 use Rattle.bits.proofs.Bits.{ofBits-cong}
@@ -17,14 +17,18 @@ use Rattle.primitives.specs.Arranged.{nibbleAt, stands, arranged, constantWord,
 use Rattle.primitives.specs.declared.State.{State}
 use Rattle.primitives.proofs.Blocks.{Words, four, stateOf-blockOf}
 use Rattle.primitives.proofs.Moves.{bit-permuted}
-use Rattle.primitives.proofs.Arrangements.{stands-arranged}
+use Rattle.primitives.proofs.Arrangements.{arranged-lt, stands-arranged}
 use Rattle.quintuple.specs.Quintuple.{good, quintupled, unquintupled}
-use Rattle.quintuple.specs.Inner.{exchangedOf, subround, unsubround}
+use Rattle.quintuple.specs.Inner.{exchangedOf, subround, unsubround, tabled}
 use Rattle.quintuple.proofs.Fixslice.{blockIn, constant-lt, subround-is-round, unsubround-is-unround}
 
 and-false : (b : Bool) → (b && false) ≡ false
 and-false false = refl
 and-false true = refl
+
+both : (a b : Bool) → a && b ≡ true → (a ≡ true) × (b ≡ true)
+both true b e = (refl, e)
+both false b e = absurd (false≢true e)
 
 -- the first n of a list, one by one
 listed : ℕ → (ℕ → ℕ) → List ℕ
@@ -49,8 +53,16 @@ pub first-ten : (ws : List ℕ) → 10 ≤ length ws → take 10 ws ≡ ten ws
 unfolding listed
 first-ten ws h = take-listed 10 ws h
 
+pub tabled-lt : (r : ℕ) → tabled r < 2 ^ 32
+unfolding constantWord
+tabled-lt r = go (ltb r 40)
+  where
+    go : (b : Bool) → cond b (constantWord (r % 5) r) 0 < 2 ^ 32
+    go true = arranged-lt (suc (r % 5)) (2 ^ 31 + constant (suc r))
+    go false = lit< tt
+
 -- a word of the table stands for its round's constant
-pub carried : (k r r′ c : ℕ) → k < 5 → r < 40 → r % 5 ≡ k → r ≡ r′ → c ≡ cond (ltb r 40) (constantWord (r % 5) r) 0 → stands (suc k) c ≡ 2 ^ 31 + constant (suc r′)
+pub carried : (k r r′ c : ℕ) → k < 5 → r < 40 → r % 5 ≡ k → r ≡ r′ → c ≡ tabled r → stands (suc k) c ≡ 2 ^ 31 + constant (suc r′)
 unfolding constantWord
 carried k r r′ c hk hr at same e =
     ap (stands (suc k))
@@ -84,10 +96,15 @@ too-few ws i h = ap (λ (b : Bool). b && (leb i 35 && eqb (i % 5) 0)) (lt-leb 10
 pub too-far : (ws : List ℕ) (i : ℕ) → 35 < i → good ws i ≡ false
 too-far ws i h = ap (λ (b : Bool). leb 10 (length ws) && (b && eqb (i % 5) 0)) (lt-leb i 35 h) ∙ and-false (leb 10 (length ws))
 
-pub no-start : (ws : List ℕ) (i : ℕ) → (i % 5 ≡ 0 → ⊥) → good ws i ≡ false
-no-start ws i h =
-    ap (λ (b : Bool). leb 10 (length ws) && (leb i 35 && b)) (ne-eqb (i % 5) 0 h) ∙ ap (λ (b : Bool). leb 10 (length ws) && b) (and-false (leb i 35))
-    ∙ and-false (leb 10 (length ws))
+pub enough : (ws : List ℕ) (i : ℕ) → 10 ≤ length ws → i ≤ 35 → good ws i ≡ eqb (i % 5) 0
+enough ws i hw hi = ap₂ (λ (a b : Bool). a && (b && eqb (i % 5) 0)) (le-leb 10 (length ws) hw) (le-leb i 35 hi)
+
+-- what the tests told
+pub is-good : (ws : List ℕ) (i : ℕ) → good ws i ≡ true → (10 ≤ length ws) × (i ≤ 35) × (i % 5 ≡ 0)
+is-good ws i e =
+    let first = both (leb 10 (length ws)) (leb i 35 && eqb (i % 5) 0) e in
+    let rest = both (leb i 35) (eqb (i % 5) 0) (first .1) in
+    (leb-true 10 (length ws) (first .0), leb-true i 35 (rest .0), eqb-true (i % 5) 0 (rest .1))
 
 module _ (s : State) (ws : List ℕ) (i : ℕ) where
   pub stays : good ws i ≡ false → s ≡ quintupled s ws i

@@ -1,11 +1,16 @@
 -- What the private functions give; no public contract cites this. The moves are said by what they mean, not by how the code makes them.
-use Prim.Native.Nat.{ℕ, suc, _+_, _-_, _*_, _/_}
+use mathlib.Core.Bool.{cond}
+use mathlib.Core.List.{List}
+use Prim.Native.Nat.{ℕ, suc, _+_, _-_, _*_, _/_, _%_}
+use lib.Dec.{ltb}
+use lib.ListN.{getD}
 use lib.Bits.{bitXor}
 use Rattle.published.specs.Rounds.{P, entry, unentry}
 use Rattle.published.proofs.Steps.{back}
 use Rattle.primitives.specs.Words.{permuted}
-use Rattle.primitives.specs.Arranged.{nibbleAt}
+use Rattle.primitives.specs.Arranged.{nibbleAt, constantWord}
 use Rattle.primitives.specs.declared.State.{State}
+use Rattle.quintuple.specs.declared.Part.{Part}
 use Rattle.quintuple.specs.Boxes.{substituted, boxed}
 
 abbrev pub exchangedOf : State → State
@@ -40,3 +45,28 @@ unmoved k s v u c =
 
 unfoldable pub unsubround : ℕ → State → ℕ → ℕ → ℕ → State
 unsubround k s v u c = exchangedOf (boxed unentry (unmoved k s v u c))
+
+-- word r of the table of constants, and 0 past its end
+abbrev pub tabled : ℕ → ℕ
+tabled r = cond (ltb r 40) (constantWord (r % 5) r) 0
+
+-- what a quintuple from round i on goes by
+abbrev pub partOf : List ℕ → ℕ → Part
+partOf ws i =
+    record {
+      v0 = getD ws 0 0;
+      u0 = getD ws 1 0;
+      c0 = tabled i;
+      v1 = getD ws 2 0;
+      u1 = getD ws 3 0;
+      c1 = tabled (i + 1);
+      v2 = getD ws 4 0;
+      u2 = getD ws 5 0;
+      c2 = tabled (i + 2);
+      v3 = getD ws 6 0;
+      u3 = getD ws 7 0;
+      c3 = tabled (i + 3);
+      v4 = getD ws 8 0;
+      u4 = getD ws 9 0;
+      c4 = tabled (i + 4);
+    }

@@ -3,8 +3,10 @@ ghost use mathlib.Core.Path.{_≡_};
 ghost use Rattle.published.specs.Rounds.{entry, unentry};
 ghost use Rattle.quintuple.specs.Boxes.{boxed};
 ghost use Rattle.primitives.specs.Arranged.{stands};
-ghost use Rattle.quintuple.specs.Quintuple.{quintupled, unquintupled, firstRound};
-ghost use Rattle.quintuple.specs.Inner.{exchangedOf, subround, unsubround};
+ghost use Prim.Native.Nat.{_≤_};
+ghost use lib.ListN.{length};
+ghost use Rattle.quintuple.specs.Quintuple.{good, quintupled, unquintupled, firstRound};
+ghost use Rattle.quintuple.specs.Inner.{exchangedOf, subround, unsubround, partOf};
 use primitives::State;
 use primitives::byte_ror_2;
 use primitives::byte_ror_4;
@@ -200,39 +202,75 @@ fn inv_round_0(s: State, v: u32, u: u32, c: u32) -> State
     exchanged(inv_sbox(State { s0, s1, s2, s3 }))
 }
 
+// Whether a quintuple can start at i, with these words.
+fn starts(rkey: &[u32], i: usize) -> bool
+    ensures { λ r. ⌜ r ≡ good (now (rkey .entry)) i ⌝ }
+{
+    if rkey.len() < 10 {
+        return false;
+    }
+    if 35 < i {
+        return false;
+    }
+    i % 5 == 0
+}
+
+// What a quintuple goes by, all read before its first round: for each of five rounds the words for V and U, and its constant.
+struct Part {
+    v0: u32,
+    u0: u32,
+    c0: u32,
+    v1: u32,
+    u1: u32,
+    c1: u32,
+    v2: u32,
+    u2: u32,
+    c2: u32,
+    v3: u32,
+    u3: u32,
+    c3: u32,
+    v4: u32,
+    u4: u32,
+    c4: u32,
+}
+
+fn read_part(rkey: &[u32], i: usize) -> Part
+    requires { ⌜ 10 ≤ length (now rkey) ⌝ }
+    requires { ⌜ i ≤ 35 ⌝ }
+    ensures { λ r. ⌜ r ≡ partOf (now (rkey .entry)) i ⌝ }
+{
+    Part {
+        v0: rkey[0],
+        u0: rkey[1],
+        c0: round_constant(i),
+        v1: rkey[2],
+        u1: rkey[3],
+        c1: round_constant(i + 1),
+        v2: rkey[4],
+        u2: rkey[5],
+        c2: round_constant(i + 2),
+        v3: rkey[6],
+        u3: rkey[7],
+        c3: round_constant(i + 3),
+        v4: rkey[8],
+        u4: rkey[9],
+        c4: round_constant(i + 4),
+    }
+}
+
 // Rounds i + 1 to i + 5, by the first ten of the words. With fewer words, or where no quintuple starts at i, the state stays.
 pub fn quintuple_round(state: State, rkey: &[u32], i: usize) -> State
     ensures { λ r. ⌜ r ≡ quintupled state (now (rkey .entry)) i ⌝ }
 {
-    if rkey.len() < 10 {
+    if !starts(rkey, i) {
         return state;
     }
-    if 35 < i {
-        return state;
-    }
-    if i % 5 != 0 {
-        return state;
-    }
-    let k0 = rkey[0];
-    let k1 = rkey[1];
-    let k2 = rkey[2];
-    let k3 = rkey[3];
-    let k4 = rkey[4];
-    let k5 = rkey[5];
-    let k6 = rkey[6];
-    let k7 = rkey[7];
-    let k8 = rkey[8];
-    let k9 = rkey[9];
-    let c0 = round_constant(i);
-    let c1 = round_constant(i + 1);
-    let c2 = round_constant(i + 2);
-    let c3 = round_constant(i + 3);
-    let c4 = round_constant(i + 4);
-    let a = round_0(state, k0, k1, c0);
-    let b = round_1(exchanged(a), k2, k3, c1);
-    let c = round_2(exchanged(b), k4, k5, c2);
-    let d = round_3(exchanged(c), k6, k7, c3);
-    let e = round_4(exchanged(d), k8, k9, c4);
+    let p = read_part(rkey, i);
+    let a = round_0(state, p.v0, p.u0, p.c0);
+    let b = round_1(exchanged(a), p.v1, p.u1, p.c1);
+    let c = round_2(exchanged(b), p.v2, p.u2, p.c2);
+    let d = round_3(exchanged(c), p.v3, p.u3, p.c3);
+    let e = round_4(exchanged(d), p.v4, p.u4, p.c4);
     // Five exchanges are one: s0 and s3 are put back.
     State {
         s0: e.s3,
@@ -246,41 +284,21 @@ pub fn quintuple_round(state: State, rkey: &[u32], i: usize) -> State
 pub fn inv_quintuple_round(state: State, rkey: &[u32], i: usize) -> State
     ensures { λ r. ⌜ r ≡ unquintupled state (now (rkey .entry)) i ⌝ }
 {
-    if rkey.len() < 10 {
+    if !starts(rkey, i) {
         return state;
     }
-    if 35 < i {
-        return state;
-    }
-    if i % 5 != 0 {
-        return state;
-    }
-    let k0 = rkey[0];
-    let k1 = rkey[1];
-    let k2 = rkey[2];
-    let k3 = rkey[3];
-    let k4 = rkey[4];
-    let k5 = rkey[5];
-    let k6 = rkey[6];
-    let k7 = rkey[7];
-    let k8 = rkey[8];
-    let k9 = rkey[9];
-    let c0 = round_constant(i);
-    let c1 = round_constant(i + 1);
-    let c2 = round_constant(i + 2);
-    let c3 = round_constant(i + 3);
-    let c4 = round_constant(i + 4);
+    let p = read_part(rkey, i);
     let x = State {
         s0: state.s3,
         s1: state.s1,
         s2: state.s2,
         s3: state.s0,
     };
-    let a = inv_round_4(x, k8, k9, c4);
-    let b = inv_round_3(exchanged(a), k6, k7, c3);
-    let c = inv_round_2(exchanged(b), k4, k5, c2);
-    let d = inv_round_1(exchanged(c), k2, k3, c1);
-    let e = inv_round_0(exchanged(d), k0, k1, c0);
+    let a = inv_round_4(x, p.v4, p.u4, p.c4);
+    let b = inv_round_3(exchanged(a), p.v3, p.u3, p.c3);
+    let c = inv_round_2(exchanged(b), p.v2, p.u2, p.c2);
+    let d = inv_round_1(exchanged(c), p.v1, p.u1, p.c1);
+    let e = inv_round_0(exchanged(d), p.v0, p.u0, p.c0);
     State {
         s0: e.s0,
         s1: e.s1,
