@@ -1,8 +1,8 @@
 // Replays cases: makes each call that a line names, and compares its answer with the one that stands in the line.
 //
-// The lines come from the files that the arguments name, or from standard input where there is none. A line is a case, `CALL FIELDS = ANSWER`
-// (calls.rt has the fields of each call), or it begins with `#`: with `##` it is a heading, under which the cases after it are counted, and
-// else a remark. The last line of the output says how many cases were equal and how many different.
+// A line of standard input is a case, `CALL FIELDS = ANSWER` (calls.rt has the fields of each call), or it begins with `#`: with `##` it is a
+// heading, under which the cases after it are counted, and else a remark. The last line of the output says how many cases were equal and how
+// many different. The cases that the gate replays stand in the file stdin beside src/.
 mod calls;
 mod text;
 
@@ -15,7 +15,7 @@ use libc::STDIN_FILENO;
 use libc::STDOUT_FILENO;
 use text::wanted;
 
-// What was counted: the lines of a file, the cases under a heading, and all cases.
+// What was counted: the lines, the cases under a heading, and all cases.
 struct Tally {
     lines: u64,
     equal: u64,
@@ -25,7 +25,7 @@ struct Tally {
     headed: bool,
 }
 
-// How far the reading of a file has come: how many bytes are kept of a line that has begun, and whether there may be more.
+// How far the reading has come: how many bytes are kept of a line that has begun, and whether there may be more.
 struct Progress {
     kept: usize,
     more: bool,
@@ -171,12 +171,12 @@ fn fed_all(start: Progress, bytes: &[u8], line: &mut [u8]) -> Progress
     p
 }
 
-fn read_some(mut p: Progress, fd: i32, line: &mut [u8]) -> Progress
+fn read_some(mut p: Progress, line: &mut [u8]) -> Progress
     requires { ⌜ p .kept ≤ length (now line) ⌝ }
     ensures { λ r. ⌜ r .kept ≤ length (now (line .entry)) ⌝ }
 {
     let mut buf = io::large_buffer();
-    let n = io::read_full(fd, &mut buf);
+    let n = io::read_full(STDIN_FILENO, &mut buf);
     if n == 0 {
         p.more = false;
         return p;
@@ -184,8 +184,8 @@ fn read_some(mut p: Progress, fd: i32, line: &mut [u8]) -> Progress
     fed_all(p, &buf[..n], line)
 }
 
-// A proved loop has to end, and nothing says that a file does: it counts down from a number that no run uses up.
-fn read_all(fd: i32, line: &mut [u8], t: Tally) -> Progress {
+// A proved loop has to end, and nothing says that the input does: it counts down from a number that no run uses up.
+fn read_all(line: &mut [u8], t: Tally) -> Progress {
     let mut p = Progress {
         kept: 0,
         more: true,
@@ -196,44 +196,21 @@ fn read_all(fd: i32, line: &mut [u8], t: Tally) -> Progress {
         if !p.more {
             return p;
         }
-        p = read_some(p, fd, line);
+        p = read_some(p, line);
         turns -= 1;
     }
     p
 }
 
-fn replay(fd: i32, t: Tally) -> Tally {
+fn replay(t: Tally) -> Tally {
     let mut line = io::buffer();
-    let p = read_all(fd, &mut line, t);
+    let p = read_all(&mut line, t);
     let tally = p.tally;
     if p.kept == 0 {
         return closed(tally);
     }
     let n = within(p.kept, &line);
     closed(judged(tally, &line[..n]))
-}
-
-fn replay_file(i: usize, mut t: Tally) -> Tally {
-    t.lines = 0;
-    let mut path = io::buffer();
-    let n = os::arg(i, &mut path);
-    let fd = os::open_read(&path[..n]);
-    if fd < 0 {
-        say(&path[..n]);
-        say(b" cannot be read: ");
-        return closed(differed(t, b"nothing"));
-    }
-    let u = replay(fd, t);
-    libc::close(fd);
-    u
-}
-
-fn replay_files(count: usize, t: Tally) -> Tally {
-    let mut tally = t;
-    for i in 1..count {
-        tally = replay_file(i, tally);
-    }
-    tally
 }
 
 fn main() {
@@ -245,12 +222,7 @@ fn main() {
         all_different: 0,
         headed: false,
     };
-    let count = os::arg_count();
-    let u = if count < 2 {
-        replay(STDIN_FILENO, t)
-    } else {
-        replay_files(count, t)
-    };
+    let u = replay(t);
     say_number(u.all_equal);
     say(b" cases equal, ");
     say_number(u.all_different);

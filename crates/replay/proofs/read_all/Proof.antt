@@ -7,10 +7,10 @@ use Rattle.replay.proofs.read_all.Statement.{statement}
 use Rattle.replay.proofs.read_all.Tie as tie
 
 abbrev Inv-loop : tie.InvT-loop
-Inv-loop fd line₀ p₀ turns₀ line p turns = (p .kept ≤ length line) × (length line ≡ length line₀)
+Inv-loop line₀ p₀ turns₀ line p turns = (p .kept ≤ length line) × (length line ≡ length line₀)
 
 abbrev μ-loop : tie.MeasureT-loop
-μ-loop fd line₀ p₀ turns₀ line p turns = turns
+μ-loop line₀ p₀ turns₀ line p turns = turns
 
 pub read-all-spec : {M : Type 1} → statement M
 read-all-spec =
