@@ -2,17 +2,18 @@
  *
  * Every function is proved to answer as said here for all lengths, numbers, bytes and records. There is nothing to set up
  * or tear down, and nothing is kept between calls: all memory is the host's, and is lent for the length of one call. Calls
- * on different memory may run at the same time.
+ * on different memory may run at the same time. The library takes no heap and some ten KiB of stack, and calls nothing
+ * but memcpy and memset.
  *
- * What a call answers is 0 (GIFT_DONE) or the number of a refusal. Refusals are tried in the order given with each function,
- * and the first that applies is the one given. After a refusal everything lent is as it was before the call.
+ * A call answers 0 (GIFT_DONE) or the number of a refusal. Refusals are tried in the order given with each function, and
+ * the first that applies is the one given. After a refusal everything lent is as it was before the call.
  *
  * What the host owes, since no callee can test it:
  *   - a pointer is not null and is aligned for its type, also with length 0, where it may point anywhere else;
  *   - as many elements as the length says lie there, each with a value, in less than 2^63 bytes;
  *   - during the call nobody else writes to them, or even reads them where the pointer is not to const;
  *   - two buffers of one call do not overlap, unless both are const.
- * A wrong length, number or record is not a fault of the host's in this sense: it is refused.
+ * A wrong length, number or record is no such fault: it is refused.
  *
  * Where the compiler has no headers of its own, declare uint8_t, uint32_t and size_t and define GIFT_HOST_NO_INCLUDES first.
  */
@@ -93,7 +94,7 @@ typedef struct gift_state {
     uint32_t s0, s1, s2, s3;
 } gift_state;
 
-/* One lane: 340 bytes, aligned to 4. The byte after count is padding, and no part of the record: a call may change it. */
+/* One lane: 340 bytes, aligned to 4. The byte at 3 is padding and no part of the record: any call may change it. */
 typedef struct gift_lane {
     uint8_t phase;              /* at 0: GIFT_IDLE, GIFT_RUNNING or GIFT_FINISHED */
     uint8_t direction;          /* at 1: GIFT_ENCRYPT or GIFT_DECRYPT */

@@ -1,6 +1,7 @@
 // What a host links, under C names: each function hands its arguments on to the proved call of the same meaning and gives back its answer.
 // The host's side of it is include/gift_host.h.
 use bench::Lane;
+use bench_lent::Turns;
 ghost use mathlib.Core.Path.{_≡_};
 ghost use denote.Ref.{now};
 ghost use Rattle.published.specs.Gift128.{encrypted, decrypted};
@@ -63,6 +64,42 @@ pub extern "C" fn gift_decrypt_blocks(key: &[u8], input: &[u8], output: &mut [u8
     gift128::decrypt_blocks(key, input, output)
 }
 
+// The bench over the host's own records. Opening: 10, 5, 6, 9, 1, 2.
+#[no_mangle]
+pub extern "C" fn gift_open_lane(
+    lanes: &mut [Lane],
+    last: u32,
+    lane: u32,
+    direction: u32,
+    key: &[u8],
+    block: &[u8],
+) -> u32
+    ensures { λ r. ⌜ (r ≡ openOf (lent (now (lanes .entry)) last) lane direction (now (key .entry)) (now (block .entry)) .code)
+        × (now (lanes .exit) ≡ openOf (lent (now (lanes .entry)) last) lane direction (now (key .entry)) (now (block .entry)) .bench .lanes) ⌝ }
+{
+    bench_lent::open_lane(lanes, last, lane, direction, key, block)
+}
+
+// Turns: 10, 8. The last served number goes in, and comes back.
+#[no_mangle]
+pub extern "C" fn gift_turn(lanes: &mut [Lane], last: u32, asked: u32) -> Turns
+    ensures { λ r. ⌜ (r ≡ turnsOf (turnOf (lent (now (lanes .entry)) last) asked))
+        × (now (lanes .exit) ≡ turnOf (lent (now (lanes .entry)) last) asked .bench .lanes) ⌝ }
+{
+    bench_lent::turn(lanes, last, asked)
+}
+
+// Taking: 10, 5, 7, 2.
+#[no_mangle]
+pub extern "C" fn gift_take(lanes: &mut [Lane], last: u32, lane: u32, out: &mut [u8]) -> u32
+    ensures { λ r. ⌜ (r ≡ takeOf (lent (now (lanes .entry)) last) lane (now (out .entry)) .code)
+        × (now (lanes .exit) ≡ takeOf (lent (now (lanes .entry)) last) lane (now (out .entry)) .bench .lanes)
+        × (now (out .exit) ≡ takenBytes (lent (now (lanes .entry)) last) lane (now (out .entry))) ⌝ }
+{
+    bench_lent::take(lanes, last, lane, out)
+}
+
+// Closing: 10, 5.
 #[no_mangle]
 pub extern "C" fn gift_close(lanes: &mut [Lane], last: u32, lane: u32) -> u32
     ensures { λ r. ⌜ (r ≡ closeOf (lent (now (lanes .entry)) last) lane .code)
