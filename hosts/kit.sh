@@ -1,6 +1,6 @@
 # Finds what the Rattle kit has to compile, link and run x86-64 programs, whatever the machine. Sourced by the scripts that do so.
 
-# need_kit NAME: ends the script NAME with status 2 if the kit is not there; otherwise kit, tools and kit_lib are set.
+# need_kit NAME: ends the script NAME with status 2 if the kit is not there; otherwise says where its tools are.
 need_kit() {
     if ! command -v rt >/dev/null 2>&1; then
         echo "$1: the Rattle kit is not installed: there is no command 'rt' on the PATH." >&2

@@ -223,26 +223,32 @@ static unsigned made_by_host, unsound, slices, lasts, turns_made, yielded;
 
 static room benches;
 
+#define PADDING 3 /* the byte of a record that is nobody's */
+
+static void store_records(uint8_t *to)
+{
+    for (unsigned i = 0; i < RECORDS; i++, to += sizeof(gift_lane)) {
+        memcpy(to, &records[i], PADDING);
+        memcpy(to + PADDING + 1, (uint8_t *)&records[i] + PADDING + 1, sizeof(gift_lane) - PADDING - 1);
+    }
+}
+
 /* All the records lie there, and so many of them are lent: those behind a short slice must not change either. */
 static void lend_bench(size_t lanes_len)
 {
     lend(&benches, "records", RECORDS, sizeof(gift_lane));
-    memcpy(part(&benches), records, sizeof records);
+    store_records(part(&benches));
+    memcpy(benches.expected, benches.memory, benches.all);
     benches.length = lanes_len;
     benches.size = lanes_len * sizeof(gift_lane);
 }
 
-/* What the model's records are now. The fourth byte of a record is padding, which is nobody's. */
-static void expect_bench(void)
-{
-    memcpy(benches.expected, benches.memory, benches.all);
-    memcpy(expected(&benches), records, sizeof records);
-}
-
 static void pass_over_padding(void)
 {
-    for (size_t i = 0; i < benches.length; i++)
-        expected(&benches)[i * sizeof(gift_lane) + 3] = ((uint8_t *)part(&benches))[i * sizeof(gift_lane) + 3];
+    for (size_t i = 0; i < benches.length; i++) {
+        size_t at = benches.from + i * sizeof(gift_lane) + PADDING;
+        benches.memory[at] = benches.expected[at] = 0;
+    }
 }
 
 /* A sound record such as a host may make: any words on any state. */
@@ -282,7 +288,7 @@ static void open_lane(size_t lanes_len, uint32_t last)
         model_by_key(direction, expected(&keys), expected(&blocks), promised[lane]);
         opened[lane] = 1;
     }
-    expect_bench();
+    store_records(expected(&benches));
     number = gift_open_lane(part(&benches), lanes_len, last, lane, direction, part(&keys), keys.length, part(&blocks), blocks.length);
     pass_over_padding();
     hold(OPEN_LANE, number, must);
@@ -298,7 +304,7 @@ static void turn(size_t lanes_len, uint32_t last)
         served = after;
         turns_made += made;
     }
-    expect_bench();
+    store_records(expected(&benches));
     told = gift_turn(part(&benches), lanes_len, last, asked);
     pass_over_padding();
     hold(TURN, told.code, must);
@@ -313,7 +319,7 @@ static void take(size_t lanes_len, uint32_t last)
     must = take_number(records, lanes_len, last, lane, outputs.length);
     if (must == 0)
         model_take(&records[lane], expected(&outputs));
-    expect_bench();
+    store_records(expected(&benches));
     number = gift_take(part(&benches), lanes_len, last, lane, part(&outputs), outputs.length);
     pass_over_padding();
     hold(TAKE, number, must);
@@ -330,7 +336,7 @@ static void close_lane(size_t lanes_len, uint32_t last)
     must = lane_number(records, lanes_len, last, lane);
     if (must == 0)
         model_close(&records[lane]);
-    expect_bench();
+    store_records(expected(&benches));
     number = gift_close(part(&benches), lanes_len, last, lane);
     pass_over_padding();
     hold(CLOSE, number, must);

@@ -1,5 +1,9 @@
-/* A metered host. Four settings, one for each guest, came as GIFT-128 blocks. It decrypts them between its guests' slices of work, three turns
- * at a time, so that no guest waits for more than three turns. Copy from here. */
+/* A metered host, to copy from. Four settings, one for each guest, came as GIFT-128 blocks. It decrypts them between its guests' slices of work,
+ * three turns at a time, so that no guest waits for more than three turns.
+ *
+ *     rt staticlib gift_host && cc hosts/c/host.c target/staticlib/libgift_host.a
+ *
+ * builds it on x86-64 Linux; hosts/c/run, beside this file, with nothing but the kit. */
 #include <stdint.h>
 #include <stdio.h>
 #include <stdlib.h>
@@ -104,8 +108,8 @@ int main(void)
         if (slice == 5)
             withdraw(2);
     }
-    printf("%u turns made between %u slices\n", made, slice - 1);
     for (guest = 0; guest < GUESTS; guest++)
         printf("guest %u worked %u steps\n", guest, steps[guest]);
+    printf("%u turns made between %u slices of work\n", made, slice - 1);
     return 0;
 }
