@@ -1,4 +1,4 @@
-# Finds what the Rattle kit has to compile, link and run x86-64 programs, whatever the machine. Sourced by the scripts that do so.
+# What the scripts share that prove, build or run something: where the Rattle kit's tools are, how its programs are run, and the library for hosts. Sourced.
 
 # need_kit NAME: ends the script NAME with status 2 if the kit is not there; otherwise says where its tools are.
 need_kit() {
@@ -16,4 +16,13 @@ run() { # PROGRAM
     emulator=$tools/bin/qemu-x86_64
     [ -x "$emulator" ] || emulator=''
     ${emulator:+"$emulator"} "$tools/lib/ld-linux-x86-64.so.2" --library-path "$tools/lib" "$1"
+}
+
+# prove_library NAME: proves and builds target/staticlib/libgift_host.a, or ends the script NAME with status 1. Run at the top of the repository.
+prove_library() {
+    mkdir -p target/hosts
+    rt staticlib gift_host >target/hosts/staticlib.log 2>&1 && return 0
+    echo "$1: the library is not proved; target/hosts/staticlib.log has what was said:" >&2
+    tail -n 20 target/hosts/staticlib.log >&2
+    exit 1
 }

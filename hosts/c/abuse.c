@@ -71,14 +71,15 @@ static uint32_t up_to(uint32_t limit)
 /* ---- what is lent: a part of a room, with canaries before and after it ---- */
 
 #define CANARIES 64
+#define ROOM (RECORDS * sizeof(gift_lane) + 3 * CANARIES)
 
 typedef struct {
     const char *name;
-    _Alignas(16) uint8_t memory[RECORDS * sizeof(gift_lane) + 3 * CANARIES]; /* of this the library is lent a part */
-    uint8_t expected[RECORDS * sizeof(gift_lane) + 3 * CANARIES];            /* and this is what the memory must be after the call */
-    size_t from, size; /* the part, in bytes */
-    size_t length;     /* its length, as it is passed */
-    size_t all;        /* as much of the room as is filled and compared */
+    _Alignas(16) uint8_t memory[ROOM]; /* of this the library is lent a part */
+    uint8_t expected[ROOM];            /* and this is what the memory must be after the call */
+    size_t from, size;                 /* the part, in bytes */
+    size_t length;                     /* its length, as it is passed */
+    size_t all;                        /* as much of the room as is filled and compared */
 } room;
 
 static room *lent[4];
@@ -115,7 +116,10 @@ static uint8_t *expected(room *r)
 
 /* ---- each call's verdict ---- */
 
-enum { ENCRYPT_BY_KEY, DECRYPT_BY_KEY, ENCRYPT_BY_WORDS, DECRYPT_BY_WORDS, EXPAND, ENCRYPT_BLOCKS, DECRYPT_BLOCKS, OPEN_LANE, TURN, TAKE, CLOSE, KINDS };
+enum {
+    ENCRYPT_BY_KEY, DECRYPT_BY_KEY, ENCRYPT_BY_WORDS, DECRYPT_BY_WORDS, EXPAND, ENCRYPT_BLOCKS,
+    DECRYPT_BLOCKS, OPEN_LANE, TURN, TAKE, CLOSE, KINDS
+};
 
 static const char *const names[KINDS] = {
     "gift_encrypt_by_key", "gift_decrypt_by_key", "gift_encrypt_by_words", "gift_decrypt_by_words", "gift_expand", "gift_encrypt_blocks",
@@ -215,10 +219,10 @@ static void many(unsigned direction)
 
 /* ---- the bench ---- */
 
-static gift_lane records[RECORDS];      /* as the model has them */
-static uint32_t served = 3;             /* the lane last served */
-static int opened[4];                   /* by gift_open_lane, and not a record of the host's making; */
-static uint8_t promised[4][16];         /* then this is what the lane must yield */
+static gift_lane records[RECORDS]; /* as the model has them */
+static uint32_t served = 3;        /* the lane last served */
+static int opened[4];              /* by gift_open_lane, and not a record of the host's making; */
+static uint8_t promised[4][16];    /* then this is what the lane must yield */
 static unsigned made_by_host, unsound, slices, lasts, turns_made, yielded;
 
 static room benches;
@@ -266,7 +270,9 @@ static gift_lane some_record(void)
 
 static void spoil(gift_lane *l)
 {
-    static const uint8_t off[][2] = {{0, 1}, {0, 8}, {0, 255}, {1, 8}, {1, 9}, {1, 255}, {2, 0}, {2, 7}, {2, 9}, {2, 255}, {3, 0}, {3, 8}, {255, 0}, {255, 8}};
+    static const uint8_t off[][2] = {
+        {0, 1}, {0, 8}, {0, 255}, {1, 8}, {1, 9}, {1, 255}, {2, 0}, {2, 7}, {2, 9}, {2, 255}, {3, 0}, {3, 8}, {255, 0}, {255, 8},
+    };
     static const uint8_t directions[] = {2, 3, 128, 255};
     if (below(4) == 0) {
         l->direction = directions[below(sizeof directions)];

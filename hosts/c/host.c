@@ -17,17 +17,18 @@ static void apply(uint32_t guest, const uint8_t *setting);
 /* [readme: */
 #include "../../include/gift_host.h"
 
-static gift_lane lanes[GIFT_LANES];     /* the records are the host's; all zero, each lane is idle */
+static gift_lane lanes[GIFT_LANES];     /* the host's own records; all zero, they are idle */
 static uint32_t last = GIFT_FRESH_LAST; /* the lane last served */
 
 static void decrypt_setting(uint32_t lane, const uint8_t *key, const uint8_t *block)
 {
-    uint32_t code = gift_open_lane(lanes, GIFT_LANES, last, lane, GIFT_DECRYPT, key, GIFT_KEY_SIZE, block, GIFT_BLOCK_SIZE);
+    uint32_t code = gift_open_lane(lanes, GIFT_LANES, last, lane, GIFT_DECRYPT,
+                                   key, GIFT_KEY_SIZE, block, GIFT_BLOCK_SIZE);
     if (code != GIFT_DONE)
         refused("gift_open_lane", code);
 }
 
-/* Between two slices: a few turns, each of them five rounds in one lane, and the settings that are finished. */
+/* Between two slices: a few turns, each five rounds in one lane, and the settings that are finished. */
 static uint32_t between_slices(void)
 {
     gift_turns turns = gift_turn(lanes, GIFT_LANES, last, TURNS);

@@ -192,6 +192,10 @@ fn refusals_of_lent_records() {
     for direction in [2, 3, 255, 256, 257, 1 << 31, u32::MAX] {
         let mut lanes = *bench.records();
         assert_eq!(
+            calls::open_lane(&mut lanes, 3, 9, direction, SHORT, LONG),
+            Err(BadLane)
+        );
+        assert_eq!(
             calls::open_lane(&mut lanes, 3, 0, direction, SHORT, LONG),
             Err(LaneNotIdle)
         );
@@ -287,6 +291,14 @@ fn small_facts() {
         (bench.turn(1), bench.turn(1024), bench.turn(0)),
         (Ok(0), Ok(0), Ok(0))
     );
+
+    let mut step_by_step = open_all();
+    for turns in 0..=32 {
+        let mut at_once = open_all();
+        assert_eq!(at_once.turn(turns), Ok(turns));
+        assert_eq!(at_once, step_by_step);
+        step_by_step.turn(1).unwrap();
+    }
 
     let mut bench = Bench::new();
     bench.open(2, Direction::Encrypt, KEY, BLOCK).unwrap();
