@@ -89,7 +89,7 @@ static void withdraw(uint32_t guest)
     uint32_t code = gift_close(lanes, GIFT_LANES, last, guest);
     if (code != GIFT_DONE)
         refused("gift_close", code);
-    printf("  guest %u's setting is withdrawn: its lane is closed after %u turns of %u\n", guest, turns, GIFT_TURNS_OF_A_LANE);
+    printf("  guest %u's setting is withdrawn: its lane is closed after %u turns of %d\n", guest, turns, GIFT_TURNS_OF_A_LANE);
     waiting--;
 }
 
