@@ -1,3 +1,4 @@
+// The crate's root, and Gift128. What is told of the crate as a whole is README.md.
 #![doc = include_str!("../README.md")]
 #![no_std]
 #![deny(unsafe_code)]

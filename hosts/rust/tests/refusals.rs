@@ -4,6 +4,7 @@ use gift_host::Refusal::*;
 use gift_host::{calls, Bench, Direction, Gift128, Lane, Refusal};
 
 const LENGTHS: [usize; 8] = [0, 1, 15, 16, 17, 32, 79, 80];
+const WORD_COUNTS: [usize; 7] = [0, 1, 16, 79, 80, 81, 160];
 
 #[test]
 fn numbers_and_names() {
@@ -21,67 +22,63 @@ fn numbers_and_names() {
     assert_eq!(told.len(), 10);
 }
 
+/// What a call on a copy of the lent buffer must answer, and that it leaves the buffer as it is exactly if it is refused.
+fn hold<T>(
+    lent: &[T],
+    must: Result<(), Refusal>,
+    call: impl FnOnce(&mut [T]) -> Result<(), Refusal>,
+) where
+    T: Clone + PartialEq,
+{
+    let mut buffer = lent.to_vec();
+    assert_eq!(call(&mut buffer), must);
+    assert_eq!(buffer == lent, must.is_err() || lent.is_empty());
+}
+
 #[test]
 fn lengths_of_one_block() {
-    for key in LENGTHS.map(|n| vec![7; n]) {
-        for block in LENGTHS.map(|n| vec![9; n]) {
-            let refusal = match (key.len(), block.len()) {
+    for block in LENGTHS.map(|n| vec![9; n]) {
+        for key in LENGTHS.map(|n| vec![7; n]) {
+            let must = match (key.len(), block.len()) {
                 (16, 16) => Ok(()),
                 (16, _) => Err(BadBlockLength),
                 _ => Err(BadKeyLength),
             };
-            for call in [calls::encrypt_by_key, calls::decrypt_by_key] {
-                let mut lent = block.clone();
-                assert_eq!(call(&key, &mut lent), refusal);
-                assert_eq!(lent == block, refusal.is_err());
-            }
+            hold(&block, must, |b| calls::encrypt_by_key(&key, b));
+            hold(&block, must, |b| calls::decrypt_by_key(&key, b));
         }
-    }
-    for words in [0, 1, 16, 79, 80, 81, 160].map(|n| vec![7; n]) {
-        for block in LENGTHS.map(|n| vec![9; n]) {
-            let refusal = match (words.len(), block.len()) {
+        for words in WORD_COUNTS.map(|n| vec![7; n]) {
+            let must = match (words.len(), block.len()) {
                 (80, 16) => Ok(()),
                 (80, _) => Err(BadBlockLength),
                 _ => Err(BadWordCount),
             };
-            for call in [calls::encrypt_by_words, calls::decrypt_by_words] {
-                let mut lent = block.clone();
-                assert_eq!(call(&words, &mut lent), refusal);
-                assert_eq!(lent == block, refusal.is_err());
-            }
+            hold(&block, must, |b| calls::encrypt_by_words(&words, b));
+            hold(&block, must, |b| calls::decrypt_by_words(&words, b));
         }
-    }
-}
-
-#[test]
-fn lengths_of_an_instance() {
-    for key in LENGTHS.map(|n| vec![7; n]) {
-        assert_eq!(
-            Gift128::new_from_slice(&key).err(),
-            (key.len() != 16).then_some(BadKeyLength)
-        );
-        for words in [0, 79, 80, 81].map(|n| vec![9; n]) {
-            let refusal = match (key.len(), words.len()) {
-                (16, 80) => Ok(()),
-                (16, _) => Err(BadWordCount),
-                _ => Err(BadKeyLength),
-            };
-            let mut lent = words.clone();
-            assert_eq!(calls::expand(&key, &mut lent), refusal);
-            assert_eq!(lent == words, refusal.is_err());
-        }
-    }
-    let cipher = Gift128::new(&[7; 16]);
-    for block in LENGTHS.map(|n| vec![9; n]) {
-        let refusal = if block.len() == 16 {
+        let cipher = Gift128::new(&[7; 16]);
+        let must = if block.len() == 16 {
             Ok(())
         } else {
             Err(BadBlockLength)
         };
-        for call in [Gift128::encrypt_slice, Gift128::decrypt_slice] {
-            let mut lent = block.clone();
-            assert_eq!(call(&cipher, &mut lent), refusal);
-            assert_eq!(lent == block, refusal.is_err());
+        hold(&block, must, |b| cipher.encrypt_slice(b));
+        hold(&block, must, |b| cipher.decrypt_slice(b));
+    }
+}
+
+#[test]
+fn lengths_of_an_expansion() {
+    for key in LENGTHS.map(|n| vec![7; n]) {
+        let instance = Gift128::new_from_slice(&key);
+        assert_eq!(instance.err(), (key.len() != 16).then_some(BadKeyLength));
+        for words in WORD_COUNTS.map(|n| vec![9; n]) {
+            let must = match (key.len(), words.len()) {
+                (16, 80) => Ok(()),
+                (16, _) => Err(BadWordCount),
+                _ => Err(BadKeyLength),
+            };
+            hold(&words, must, |w| calls::expand(&key, w));
         }
     }
 }
@@ -91,17 +88,14 @@ fn lengths_of_many_blocks() {
     for key in LENGTHS.map(|n| vec![7; n]) {
         for input in LENGTHS.map(|n| vec![8; n]) {
             for output in LENGTHS.map(|n| vec![9; n]) {
-                let refusal = match (key.len(), input.len() % 16, output.len() == input.len()) {
+                let must = match (key.len(), input.len() % 16, output.len() == input.len()) {
                     (16, 0, true) => Ok(()),
                     (16, 0, false) => Err(BadOutputLength),
                     (16, ..) => Err(BadBlockLength),
                     _ => Err(BadKeyLength),
                 };
-                for call in [calls::encrypt_blocks, calls::decrypt_blocks] {
-                    let mut lent = output.clone();
-                    assert_eq!(call(&key, &input, &mut lent), refusal);
-                    assert_eq!(lent == output, refusal.is_err() || output.is_empty());
-                }
+                hold(&output, must, |o| calls::encrypt_blocks(&key, &input, o));
+                hold(&output, must, |o| calls::decrypt_blocks(&key, &input, o));
             }
         }
     }
