@@ -1,0 +1,431 @@
+/* A random walk of 100,000 calls over everything that the library exports, with good and bad arguments, each call held to model.h: the number
+ * given back, every byte, word and record lent, and every byte round them. The same walk on each run. Exit status 1 if anything differs. */
+#include <stdio.h>
+#include <string.h>
+
+#include "model.h"
+
+#define CALLS 100000
+#define RECORDS 6 /* of which four are a bench */
+
+/* The header's names are document 01's numbers. */
+_Static_assert(GIFT_DONE == 0 && GIFT_BAD_KEY_LENGTH == 1 && GIFT_BAD_BLOCK_LENGTH == 2 && GIFT_BAD_OUTPUT_LENGTH == 3, "0 to 3");
+_Static_assert(GIFT_BAD_WORD_COUNT == 4 && GIFT_BAD_LANE == 5 && GIFT_LANE_NOT_IDLE == 6 && GIFT_LANE_NOT_FINISHED == 7, "4 to 7");
+_Static_assert(GIFT_TOO_MANY_TURNS == 8 && GIFT_BAD_DIRECTION == 9 && GIFT_BAD_BENCH == 10, "8 to 10");
+_Static_assert(GIFT_IDLE == 0 && GIFT_RUNNING == 1 && GIFT_FINISHED == 2 && GIFT_ENCRYPT == 0 && GIFT_DECRYPT == 1, "phases and directions");
+_Static_assert(GIFT_BLOCK_SIZE == 16 && GIFT_KEY_SIZE == 16 && GIFT_WORDS == 80 && GIFT_LANES == 4 && GIFT_FRESH_LAST == 3, "sizes");
+_Static_assert(GIFT_MOST_TURNS == 1024 && GIFT_TURNS_OF_A_LANE == 8, "turns");
+
+/* ---- numbers at random: splitmix64 ---- */
+
+static uint64_t seed = 128;
+
+static uint64_t next(void)
+{
+    uint64_t z = seed += 0x9e3779b97f4a7c15;
+    z = (z ^ z >> 30) * 0xbf58476d1ce4e5b9;
+    z = (z ^ z >> 27) * 0x94d049bb133111eb;
+    return z ^ z >> 31;
+}
+
+static uint32_t below(uint32_t n)
+{
+    return (uint32_t)(next() % n);
+}
+
+/* ---- arguments ---- */
+
+/* Of eight arguments, how many are bad in this call: none in most, some in others, and in a few so many that the order of refusals shows. */
+static uint32_t mischief;
+
+static int bad(void)
+{
+    return below(8) < mischief;
+}
+
+static size_t length(size_t good)
+{
+    static const size_t some[] = {0, 1, 8, 10, 15, 16, 17, 31, 32, 33, 64, 79, 80, 81, 96, 160};
+    return bad() ? some[below(sizeof some / sizeof *some)] : good;
+}
+
+static uint32_t number_above(uint32_t limit)
+{
+    uint32_t n;
+    do {
+        switch (below(4)) {
+        case 0: n = limit + 1 + below(3); break;
+        case 1: n = (1u << (8 + below(24))) + below(4); break;
+        case 2: n = UINT32_MAX - below(4); break;
+        default: n = (uint32_t)next(); break;
+        }
+    } while (n <= limit);
+    return n;
+}
+
+static uint32_t up_to(uint32_t limit)
+{
+    return bad() ? number_above(limit) : below(limit + 1);
+}
+
+/* ---- what is lent: a part of a room, with canaries before and after it ---- */
+
+#define CANARIES 64
+#define ROOM (RECORDS * sizeof(gift_lane) + 3 * CANARIES)
+
+typedef struct {
+    const char *name;
+    _Alignas(16) uint8_t memory[ROOM]; /* of this the library is lent a part */
+    uint8_t expected[ROOM];            /* and this is what the memory must be after the call */
+    size_t from, size;                 /* the part, in bytes */
+    size_t length;                     /* its length, as it is passed */
+    size_t all;                        /* as much of the room as is filled and compared */
+} room;
+
+static room *lent[4];
+static unsigned lent_count;
+
+/* So many elements of a size, somewhere in the room. Everything in it is random, but that some parts are all zeros or all ones. */
+static void lend(room *r, const char *name, size_t length, size_t element)
+{
+    size_t step = element == 1 ? 1 : 4;
+    r->name = name;
+    r->from = CANARIES + step * below(16);
+    r->size = length * element;
+    r->length = length;
+    r->all = r->from + r->size + CANARIES;
+    for (size_t i = 0; i < r->all; i += 8) {
+        uint64_t z = next();
+        memcpy(r->memory + i, &z, sizeof z);
+    }
+    if (below(16) == 0)
+        memset(r->memory + r->from, below(2) ? 0xff : 0, r->size);
+    memcpy(r->expected, r->memory, r->all);
+    lent[lent_count++] = r;
+}
+
+static void *part(room *r)
+{
+    return r->memory + r->from;
+}
+
+static uint8_t *expected(room *r)
+{
+    return r->expected + r->from;
+}
+
+/* ---- each call's verdict ---- */
+
+enum {
+    ENCRYPT_BY_KEY, DECRYPT_BY_KEY, ENCRYPT_BY_WORDS, DECRYPT_BY_WORDS, EXPAND, ENCRYPT_BLOCKS,
+    DECRYPT_BLOCKS, OPEN_LANE, TURN, TAKE, CLOSE, KINDS
+};
+
+static const char *const names[KINDS] = {
+    "gift_encrypt_by_key", "gift_decrypt_by_key", "gift_encrypt_by_words", "gift_decrypt_by_words", "gift_expand", "gift_encrypt_blocks",
+    "gift_decrypt_blocks", "gift_open_lane", "gift_turn", "gift_take", "gift_close",
+};
+
+static unsigned calls, differences, given[KINDS][11];
+
+/* Counts a difference, and starts to tell it if there were not many before. */
+static int differs(unsigned kind)
+{
+    if (++differences > 20)
+        return 0;
+    printf("call %u, %s: ", calls, names[kind]);
+    return 1;
+}
+
+/* The first byte of a room that is not what it must be, if there is one. */
+static void hold_room(unsigned kind, const room *r)
+{
+    size_t at = 0;
+    while (at < r->all && r->memory[at] == r->expected[at])
+        at++;
+    if (at < r->all && differs(kind))
+        printf("%s, lent at %lu, %lu bytes: byte %lu is %02x and must be %02x\n", r->name, (unsigned long)r->from, (unsigned long)r->size,
+               (unsigned long)at, r->memory[at], r->expected[at]);
+}
+
+static void hold(unsigned kind, uint32_t number, uint32_t must)
+{
+    calls++;
+    given[kind][must]++;
+    if (number != must && differs(kind))
+        printf("the number is %u and must be %u\n", number, must);
+    while (lent_count > 0)
+        hold_room(kind, lent[--lent_count]);
+}
+
+/* ---- blocks and words ---- */
+
+static room keys, blocks, outputs, words;
+
+static void by_key(unsigned direction)
+{
+    uint32_t number, must;
+    lend(&keys, "key", length(16), 1);
+    lend(&blocks, "block", length(16), 1);
+    must = key_number(keys.length, blocks.length);
+    if (must == 0)
+        model_by_key(direction, expected(&keys), expected(&blocks), expected(&blocks));
+    number = (direction == 0 ? gift_encrypt_by_key : gift_decrypt_by_key)(part(&keys), keys.length, part(&blocks), blocks.length);
+    hold(direction == 0 ? ENCRYPT_BY_KEY : DECRYPT_BY_KEY, number, must);
+}
+
+static void by_words(unsigned direction)
+{
+    uint32_t number, must, some[80];
+    lend(&words, "words", length(80), 4);
+    lend(&blocks, "block", length(16), 1);
+    must = words_number(words.length, blocks.length);
+    if (must == 0) {
+        memcpy(some, expected(&words), sizeof some);
+        model_by_words(direction, some, expected(&blocks), expected(&blocks));
+    }
+    number = (direction == 0 ? gift_encrypt_by_words : gift_decrypt_by_words)(part(&words), words.length, part(&blocks), blocks.length);
+    hold(direction == 0 ? ENCRYPT_BY_WORDS : DECRYPT_BY_WORDS, number, must);
+}
+
+static void expand(void)
+{
+    uint32_t number, must, some[80];
+    lend(&keys, "key", length(16), 1);
+    lend(&words, "words", length(80), 4);
+    must = expand_number(keys.length, words.length);
+    if (must == 0) {
+        model_expand(expected(&keys), some);
+        memcpy(expected(&words), some, sizeof some);
+    }
+    number = gift_expand(part(&keys), keys.length, part(&words), words.length);
+    hold(EXPAND, number, must);
+}
+
+static void many(unsigned direction)
+{
+    uint32_t number, must;
+    lend(&keys, "key", length(16), 1);
+    lend(&blocks, "input", length(16 * below(6)), 1);
+    lend(&outputs, "output", length(blocks.length), 1);
+    must = many_number(keys.length, blocks.length, outputs.length);
+    if (must == 0)
+        for (size_t at = 0; at < blocks.length; at += 16)
+            model_by_key(direction, expected(&keys), expected(&blocks) + at, expected(&outputs) + at);
+    number = (direction == 0 ? gift_encrypt_blocks : gift_decrypt_blocks)(part(&keys), keys.length, part(&blocks), blocks.length, part(&outputs),
+                                                                          outputs.length);
+    hold(direction == 0 ? ENCRYPT_BLOCKS : DECRYPT_BLOCKS, number, must);
+}
+
+/* ---- the bench ---- */
+
+static gift_lane records[RECORDS]; /* as the model has them */
+static uint32_t served = 3;        /* the lane last served */
+static int opened[4];              /* by gift_open_lane, and not a record of the host's making; */
+static uint8_t promised[4][16];    /* then this is what the lane must yield */
+static unsigned made_by_host, unsound, slices, lasts, turns_made, yielded;
+
+static room benches;
+
+#define PADDING 3 /* the byte of a record that is nobody's */
+
+static void store_records(uint8_t *to)
+{
+    for (unsigned i = 0; i < RECORDS; i++, to += sizeof(gift_lane)) {
+        memcpy(to, &records[i], PADDING);
+        memcpy(to + PADDING + 1, (uint8_t *)&records[i] + PADDING + 1, sizeof(gift_lane) - PADDING - 1);
+    }
+}
+
+/* All the records lie there, and so many of them are lent: those behind a short slice must not change either. */
+static void lend_bench(size_t lanes_len)
+{
+    lend(&benches, "records", RECORDS, sizeof(gift_lane));
+    store_records(part(&benches));
+    memcpy(benches.expected, benches.memory, benches.all);
+    benches.length = lanes_len;
+    benches.size = lanes_len * sizeof(gift_lane);
+}
+
+static void pass_over_padding(void)
+{
+    for (size_t i = 0; i < benches.length; i++) {
+        size_t at = benches.from + i * sizeof(gift_lane) + PADDING;
+        benches.memory[at] = benches.expected[at] = 0;
+    }
+}
+
+/* A sound record such as a host may make: any words on any state. */
+static gift_lane some_record(void)
+{
+    gift_lane l;
+    for (unsigned i = 0; i < 80; i++)
+        l.words[i] = (uint32_t)next();
+    l.state = (gift_state){(uint32_t)next(), (uint32_t)next(), (uint32_t)next(), (uint32_t)next()};
+    l.phase = (uint8_t)below(3);
+    l.direction = (uint8_t)below(2);
+    l.count = (uint8_t)(l.phase == 0 ? 0 : l.phase == 1 ? below(8) : 8);
+    return l;
+}
+
+static void spoil(gift_lane *l)
+{
+    static const uint8_t off[][2] = {
+        {0, 1}, {0, 8}, {0, 255}, {1, 8}, {1, 9}, {1, 255}, {2, 0}, {2, 7}, {2, 9}, {2, 255}, {3, 0}, {3, 8}, {255, 0}, {255, 8},
+    };
+    static const uint8_t directions[] = {2, 3, 128, 255};
+    if (below(4) == 0) {
+        l->direction = directions[below(sizeof directions)];
+    } else {
+        uint32_t n = below(sizeof off / sizeof *off);
+        l->phase = off[n][0];
+        l->count = off[n][1];
+    }
+}
+
+static void open_lane(size_t lanes_len, uint32_t last)
+{
+    uint32_t number, must, lane = up_to(3), direction = up_to(1);
+    lend(&keys, "key", length(16), 1);
+    lend(&blocks, "block", length(16), 1);
+    must = open_number(records, lanes_len, last, lane, direction, keys.length, blocks.length);
+    if (must == 0) {
+        model_open(&records[lane], direction, expected(&keys), expected(&blocks));
+        model_by_key(direction, expected(&keys), expected(&blocks), promised[lane]);
+        opened[lane] = 1;
+    }
+    store_records(expected(&benches));
+    number = gift_open_lane(part(&benches), lanes_len, last, lane, direction, part(&keys), keys.length, part(&blocks), blocks.length);
+    pass_over_padding();
+    hold(OPEN_LANE, number, must);
+}
+
+static void turn(size_t lanes_len, uint32_t last)
+{
+    uint32_t must, made = 0, after = last, asked = bad() ? number_above(1024) : below(16) ? below(12) : below(2) ? 1024 : below(1024);
+    gift_turns told;
+    must = turn_number(records, lanes_len, last, asked);
+    if (must == 0) {
+        made = model_turn(records, &after, asked);
+        served = after;
+        turns_made += made;
+    }
+    store_records(expected(&benches));
+    told = gift_turn(part(&benches), lanes_len, last, asked);
+    pass_over_padding();
+    hold(TURN, told.code, must);
+    if ((told.made != made || told.last != after) && differs(TURN))
+        printf("of %u turns asked %u are made, last served %u, and must be %u, %u\n", asked, told.made, told.last, made, after);
+}
+
+static void take(size_t lanes_len, uint32_t last)
+{
+    uint32_t number, must, lane = up_to(3);
+    lend(&outputs, "take buffer", length(16), 1);
+    must = take_number(records, lanes_len, last, lane, outputs.length);
+    if (must == 0)
+        model_take(&records[lane], expected(&outputs));
+    store_records(expected(&benches));
+    number = gift_take(part(&benches), lanes_len, last, lane, part(&outputs), outputs.length);
+    pass_over_padding();
+    hold(TAKE, number, must);
+    if (must == 0 && opened[lane]) {
+        yielded++;
+        if (memcmp(part(&outputs), promised[lane], 16) != 0 && differs(TAKE))
+            printf("lane %u does not yield what its key and block give\n", lane);
+    }
+}
+
+static void close_lane(size_t lanes_len, uint32_t last)
+{
+    uint32_t number, must, lane = up_to(3);
+    must = lane_number(records, lanes_len, last, lane);
+    if (must == 0)
+        model_close(&records[lane]);
+    store_records(expected(&benches));
+    number = gift_close(part(&benches), lanes_len, last, lane);
+    pass_over_padding();
+    hold(CLOSE, number, must);
+}
+
+static uint32_t mood; /* which call is made most, for some calls: so benches get full, and are turned and emptied */
+
+/* A call on the bench as the calls before it left it; now and then the host has put a sound record of its own making there, or any last served
+ * number. A bench is damaged for one call, which must leave it so, and is then put right. */
+static void on_the_bench(void)
+{
+    gift_lane right = {0}, *damaged = NULL;
+    size_t lanes_len = 4;
+    uint32_t kind, last;
+
+    if (below(6) == 0)
+        mood = below(3);
+    kind = below(4) == 0 ? below(4) : mood;
+    if (below(50) == 0) {
+        uint32_t lane = below(4);
+        records[lane] = some_record();
+        opened[lane] = 0;
+        made_by_host++;
+    }
+    if (below(50) == 0)
+        served = below(4);
+
+    last = served;
+    if (bad() && below(2) == 0) {
+        damaged = &records[below(4)];
+        right = *damaged;
+        spoil(damaged);
+        unsound++;
+    }
+    if (bad() && below(4) == 0) {
+        static const size_t others[] = {0, 1, 2, 3, 5, 6};
+        lanes_len = others[below(6)];
+        slices++;
+    }
+    if (bad() && below(4) == 0) {
+        last = number_above(3);
+        lasts++;
+    }
+
+    lend_bench(lanes_len);
+    switch (kind) {
+    case 0: open_lane(lanes_len, last); break;
+    case 1: turn(lanes_len, last); break;
+    case 2: take(lanes_len, last); break;
+    default: close_lane(lanes_len, last); break;
+    }
+    if (damaged != NULL)
+        *damaged = right;
+}
+
+int main(void)
+{
+    for (unsigned i = 4; i < RECORDS; i++)
+        records[i] = some_record();
+    while (calls < CALLS) {
+        uint32_t kind = below(20);
+        mischief = below(8) < 5 ? 0 : below(4) ? 2 : 5;
+        switch (kind) {
+        case 0: case 1: by_key(kind % 2); break;
+        case 2: case 3: by_words(kind % 2); break;
+        case 4: expand(); break;
+        case 5: case 6: many(kind % 2); break;
+        default: on_the_bench(); break;
+        }
+    }
+
+    printf("%-22s", "number given back:");
+    for (unsigned number = 0; number <= 10; number++)
+        printf("%7u", number);
+    for (unsigned kind = 0; kind < KINDS; kind++) {
+        printf("\n%-22s", names[kind]);
+        for (unsigned number = 0; number <= 10; number++)
+            printf("%7u", given[kind][number]);
+    }
+    printf("\n");
+    printf("%u turns were made; %u opened lanes yielded what GIFT-128 gives\n", turns_made, yielded);
+    printf("%u sound records were the host's; %u calls met an unsound one, %u a slice not of four, %u a last served number above 3\n", made_by_host,
+           unsound, slices, lasts);
+    printf("%u calls, %u differences\n", calls, differences);
+    return differences > 0;
+}

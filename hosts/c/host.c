@@ -1,0 +1,116 @@
+/* A metered host, to copy from. Four settings, one for each guest, came as GIFT-128 blocks. It decrypts them between its guests' slices of work,
+ * three turns at a time, so that no guest waits for more than three turns.
+ *
+ *     rt staticlib gift_host && cc hosts/c/host.c target/staticlib/libgift_host.a
+ *
+ * builds it on x86-64 Linux; hosts/c/run, beside this file, with nothing but the kit. */
+#include <stdint.h>
+#include <stdio.h>
+#include <stdlib.h>
+
+#define GUESTS GIFT_LANES
+#define TURNS 3
+
+static void refused(const char *call, uint32_t code);
+static void apply(uint32_t guest, const uint8_t *setting);
+
+/* [readme: */
+#include "../../include/gift_host.h"
+
+static gift_lane lanes[GIFT_LANES];     /* the host's own records; all zero, they are idle */
+static uint32_t last = GIFT_FRESH_LAST; /* the lane last served */
+
+static void decrypt_setting(uint32_t lane, const uint8_t *key, const uint8_t *block)
+{
+    uint32_t code = gift_open_lane(lanes, GIFT_LANES, last, lane, GIFT_DECRYPT,
+                                   key, GIFT_KEY_SIZE, block, GIFT_BLOCK_SIZE);
+    if (code != GIFT_DONE)
+        refused("gift_open_lane", code);
+}
+
+/* Between two slices: a few turns, each five rounds in one lane, and the settings that are finished. */
+static uint32_t between_slices(void)
+{
+    gift_turns turns = gift_turn(lanes, GIFT_LANES, last, TURNS);
+    if (turns.code != GIFT_DONE)
+        refused("gift_turn", turns.code);
+    last = turns.last;
+    for (uint32_t lane = 0; lane < GIFT_LANES; lane++) {
+        uint8_t setting[GIFT_BLOCK_SIZE];
+        uint32_t code = gift_take(lanes, GIFT_LANES, last, lane, setting, sizeof setting);
+        if (code == GIFT_DONE)
+            apply(lane, setting);
+        else if (code != GIFT_LANE_NOT_FINISHED)
+            refused("gift_take", code);
+    }
+    return turns.made;
+}
+/* :readme] */
+
+static const uint8_t key[GIFT_KEY_SIZE] = {
+    0x00, 0x01, 0x02, 0x03, 0x04, 0x05, 0x06, 0x07, 0x08, 0x09, 0x0a, 0x0b, 0x0c, 0x0d, 0x0e, 0x0f,
+};
+
+static const uint8_t blocks[GUESTS][GIFT_BLOCK_SIZE] = {
+    {0xc6, 0x84, 0x92, 0x27, 0xac, 0xc4, 0x0c, 0xb0, 0x5d, 0x30, 0xe4, 0x70, 0x8f, 0x21, 0x5d, 0x7f},
+    {0x24, 0xf5, 0xdc, 0x4f, 0x96, 0xd5, 0x15, 0xe1, 0xe5, 0xd1, 0xa1, 0xcf, 0x81, 0x69, 0x64, 0x4e},
+    {0x29, 0xfc, 0xc6, 0xf3, 0x4c, 0x99, 0xb8, 0xd5, 0xa2, 0x3a, 0x01, 0xbb, 0x71, 0xea, 0x99, 0x91},
+    {0x65, 0x2b, 0x59, 0x58, 0x27, 0x15, 0x8d, 0x1a, 0x4c, 0x54, 0x16, 0xe4, 0xea, 0x2a, 0x41, 0x3d},
+};
+
+/* A call that was refused has changed nothing, but this host has no other plan. */
+static void refused(const char *call, uint32_t code)
+{
+    printf("%s is refused, number %u\n", call, code);
+    exit(1);
+}
+
+static uint32_t waiting; /* settings that are still wanted */
+
+static void apply(uint32_t guest, const uint8_t *setting)
+{
+    printf("  guest %u has its setting: %.*s\n", guest, GIFT_BLOCK_SIZE, (const char *)setting);
+    waiting--;
+}
+
+/* What the guests do is their own affair: here each counts its steps. */
+static uint32_t steps[GUESTS];
+
+static void work(uint32_t guest)
+{
+    for (uint32_t i = 0; i < 1000; i++)
+        steps[guest]++;
+}
+
+/* A setting that is not wanted any more: its lane is closed, however far it has come. */
+static void withdraw(uint32_t guest)
+{
+    uint32_t turns = lanes[guest].count;
+    uint32_t code = gift_close(lanes, GIFT_LANES, last, guest);
+    if (code != GIFT_DONE)
+        refused("gift_close", code);
+    printf("  guest %u's setting is withdrawn: its lane is closed after %u turns of %d\n", guest, turns, GIFT_TURNS_OF_A_LANE);
+    waiting--;
+}
+
+int main(void)
+{
+    uint32_t guest, slice, made = 0;
+
+    for (guest = 0; guest < GUESTS; guest++) {
+        decrypt_setting(guest, key, blocks[guest]);
+        waiting++;
+    }
+    for (slice = 1; waiting > 0; slice++) {
+        guest = (slice - 1) % GUESTS;
+        printf("slice %u: guest %u works\n", slice, guest);
+        work(guest);
+        made += between_slices();
+        if (slice == 5)
+            withdraw(2);
+    }
+    for (guest = 0; guest < GUESTS; guest++)
+        printf("guest %u worked %u steps\n", guest, steps[guest]);
+    printf("%u turns made between %u slices of work\n", made, slice - 1);
+    return 0;
+}

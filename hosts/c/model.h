@@ -1,0 +1,337 @@
+/* Document 01 as plain C: the published cipher, the bench, and the number that each call gives back. What abuse.c holds the library to.
+ * It shares nothing with the library but the form of a lane record, and writes document 01's numbers as numbers. */
+#include <stddef.h>
+#include <stdint.h>
+
+#include "../../include/gift_host.h"
+
+/* ---- the published cipher ---- */
+
+typedef struct {
+    uint8_t b[128]; /* b[i] is bit i of the block's number */
+} bits;
+
+typedef struct {
+    uint32_t u, v;
+} pair; /* what a round takes from the key */
+
+static const uint8_t sbox[16] = {0x1, 0xa, 0x4, 0xc, 0x6, 0xf, 0x3, 0x9, 0x2, 0xd, 0xb, 0x7, 0x5, 0x0, 0x8, 0xe};
+
+static unsigned P(unsigned i)
+{
+    return 4 * (i / 16) + 32 * ((3 * ((i % 16) / 4) + i % 4) % 4) + i % 4;
+}
+
+static bits bits_of_bytes(const uint8_t *bytes)
+{
+    bits x;
+    for (unsigned i = 0; i < 128; i++)
+        x.b[i] = bytes[15 - i / 8] >> (i % 8) & 1;
+    return x;
+}
+
+static void bytes_of_bits(bits x, uint8_t *bytes)
+{
+    for (unsigned n = 0; n < 16; n++) {
+        bytes[15 - n] = 0;
+        for (unsigned i = 0; i < 8; i++)
+            bytes[15 - n] |= (uint8_t)(x.b[8 * n + i] << i);
+    }
+}
+
+/* steps 3 and 4, which undo themselves */
+static void add_key_and_constant(bits *x, pair k, unsigned constant)
+{
+    for (unsigned i = 0; i < 32; i++) {
+        x->b[4 * i + 2] ^= (uint8_t)(k.u >> i & 1);
+        x->b[4 * i + 1] ^= (uint8_t)(k.v >> i & 1);
+    }
+    x->b[127] ^= 1;
+    for (unsigned i = 0; i < 6; i++)
+        x->b[4 * i + 3] ^= (uint8_t)(constant >> i & 1);
+}
+
+static unsigned nibble(const bits *x, unsigned i)
+{
+    return x->b[4 * i] | x->b[4 * i + 1] << 1 | x->b[4 * i + 2] << 2 | x->b[4 * i + 3] << 3;
+}
+
+static void set_nibble(bits *x, unsigned i, unsigned to)
+{
+    for (unsigned j = 0; j < 4; j++)
+        x->b[4 * i + j] = to >> j & 1;
+}
+
+static void do_round(bits *x, pair k, unsigned constant)
+{
+    bits y;
+    for (unsigned i = 0; i < 32; i++)
+        set_nibble(x, i, sbox[nibble(x, i)]);
+    for (unsigned i = 0; i < 128; i++)
+        y.b[P(i)] = x->b[i];
+    add_key_and_constant(&y, k, constant);
+    *x = y;
+}
+
+static void undo_round(bits *x, pair k, unsigned constant)
+{
+    bits y;
+    uint8_t inverse[16];
+    for (unsigned n = 0; n < 16; n++)
+        inverse[sbox[n]] = (uint8_t)n;
+    add_key_and_constant(x, k, constant);
+    for (unsigned i = 0; i < 128; i++)
+        y.b[i] = x->b[P(i)];
+    for (unsigned i = 0; i < 32; i++)
+        set_nibble(&y, i, inverse[nibble(&y, i)]);
+    *x = y;
+}
+
+/* the constant of a round, from 0: stepped once before each use */
+static unsigned constant_of(unsigned round)
+{
+    unsigned c = 0;
+    for (unsigned i = 0; i <= round; i++)
+        c = (c << 1 & 0x3f) | ((c >> 5 ^ c >> 4 ^ 1) & 1);
+    return c;
+}
+
+/* so many rounds from one on, done or undone; pairs has all forty */
+static void rounds(bits *x, unsigned direction, const pair *pairs, unsigned from, unsigned count)
+{
+    for (unsigned i = 0; i < count; i++) {
+        unsigned r = direction == 0 ? from + i : from + count - 1 - i;
+        if (direction == 0)
+            do_round(x, pairs[r], constant_of(r));
+        else
+            undo_round(x, pairs[r], constant_of(r));
+    }
+}
+
+static uint16_t rotated16(uint16_t x, unsigned n)
+{
+    return (uint16_t)(x >> n | x << (16 - n));
+}
+
+static void pairs_of_key(const uint8_t *key, pair *pairs)
+{
+    uint16_t k[8];
+    for (unsigned i = 0; i < 8; i++)
+        k[7 - i] = (uint16_t)(key[2 * i] << 8 | key[2 * i + 1]);
+    for (unsigned r = 0; r < 40; r++) {
+        uint16_t k0 = k[0], k1 = k[1];
+        pairs[r].u = (uint32_t)k[5] << 16 | k[4];
+        pairs[r].v = (uint32_t)k[1] << 16 | k[0];
+        for (unsigned i = 0; i < 6; i++)
+            k[i] = k[i + 2];
+        k[7] = rotated16(k1, 2);
+        k[6] = rotated16(k0, 12);
+    }
+}
+
+static void model_by_key(unsigned direction, const uint8_t *key, const uint8_t *from, uint8_t *to)
+{
+    pair pairs[40];
+    bits x = bits_of_bytes(from);
+    pairs_of_key(key, pairs);
+    rounds(&x, direction, pairs, 0, 40);
+    bytes_of_bits(x, to);
+}
+
+/* ---- what round words stand for ----
+ * Words 2r and 2r+1 are V and U of round r, kept as the block's words stand after that round. Within five rounds those are not moved along with
+ * the nibbles: k rounds in, place i holds what belongs to nibble N(..N(i)), N taken k times, where N(n) is the nibble to which bit 3 of nibble n
+ * moves. After five rounds that is nibble i again. */
+
+static unsigned nibble_at(unsigned k, unsigned i)
+{
+    while (k-- > 0)
+        i = P(4 * i + 3) / 4;
+    return i;
+}
+
+static uint32_t arranged(unsigned k, uint32_t w)
+{
+    uint32_t kept = 0;
+    for (unsigned i = 0; i < 32; i++)
+        kept |= (w >> nibble_at(k, i) & 1) << i;
+    return kept;
+}
+
+static uint32_t stands_for(unsigned k, uint32_t kept)
+{
+    uint32_t w = 0;
+    for (unsigned i = 0; i < 32; i++)
+        w |= (kept >> i & 1) << nibble_at(k, i);
+    return w;
+}
+
+static void model_expand(const uint8_t *key, uint32_t *words)
+{
+    pair pairs[40];
+    pairs_of_key(key, pairs);
+    for (unsigned r = 0; r < 40; r++) {
+        words[2 * r] = arranged(r % 5 + 1, pairs[r].v);
+        words[2 * r + 1] = arranged(r % 5 + 1, pairs[r].u);
+    }
+}
+
+/* so many rounds from one on, by words; both are multiples of five */
+static void rounds_by_words(bits *x, unsigned direction, const uint32_t *words, unsigned from, unsigned count)
+{
+    pair pairs[40];
+    for (unsigned r = from; r < from + count; r++) {
+        pairs[r].v = stands_for(r % 5 + 1, words[2 * r]);
+        pairs[r].u = stands_for(r % 5 + 1, words[2 * r + 1]);
+    }
+    rounds(x, direction, pairs, from, count);
+}
+
+static void model_by_words(unsigned direction, const uint32_t *words, const uint8_t *from, uint8_t *to)
+{
+    bits x = bits_of_bytes(from);
+    rounds_by_words(&x, direction, words, 0, 40);
+    bytes_of_bits(x, to);
+}
+
+/* ---- packing: bit i of word j is b(4i+j) ---- */
+
+static gift_state packed(bits x)
+{
+    uint32_t s[4] = {0, 0, 0, 0};
+    for (unsigned i = 0; i < 128; i++)
+        s[i % 4] |= (uint32_t)x.b[i] << i / 4;
+    return (gift_state){s[0], s[1], s[2], s[3]};
+}
+
+static bits unpacked(gift_state state)
+{
+    const uint32_t s[4] = {state.s0, state.s1, state.s2, state.s3};
+    bits x;
+    for (unsigned i = 0; i < 128; i++)
+        x.b[i] = s[i % 4] >> i / 4 & 1;
+    return x;
+}
+
+/* ---- the bench: what each call does where nothing refuses it ---- */
+
+static void model_open(gift_lane *lane, uint32_t direction, const uint8_t *key, const uint8_t *block)
+{
+    lane->phase = 1;
+    lane->direction = (uint8_t)direction;
+    lane->count = 0;
+    model_expand(key, lane->words);
+    lane->state = packed(bits_of_bytes(block));
+}
+
+static void model_serve(gift_lane *lane)
+{
+    bits x = unpacked(lane->state);
+    unsigned offset = lane->direction == 0 ? 5u * lane->count : 35 - 5u * lane->count;
+    rounds_by_words(&x, lane->direction, lane->words, offset, 5);
+    lane->state = packed(x);
+    lane->count++;
+    if (lane->count == 8)
+        lane->phase = 2;
+}
+
+/* how many turns are made */
+static uint32_t model_turn(gift_lane *lanes, uint32_t *last, uint32_t asked)
+{
+    for (uint32_t made = 0; made < asked; made++) {
+        uint32_t step = 1;
+        while (step <= 4 && lanes[(*last + step) % 4].phase != 1)
+            step++;
+        if (step > 4)
+            return made;
+        *last = (*last + step) % 4;
+        model_serve(&lanes[*last]);
+    }
+    return asked;
+}
+
+/* round words stay */
+static void model_close(gift_lane *lane)
+{
+    lane->phase = lane->direction = lane->count = 0;
+    lane->state = (gift_state){0, 0, 0, 0};
+}
+
+static void model_take(gift_lane *lane, uint8_t *out)
+{
+    bytes_of_bits(unpacked(lane->state), out);
+    model_close(lane);
+}
+
+/* ---- the numbers given back, in each call's order ---- */
+
+static uint32_t key_number(size_t key_len, size_t block_len)
+{
+    return key_len != 16 ? 1 : block_len != 16 ? 2 : 0;
+}
+
+static uint32_t words_number(size_t words_len, size_t block_len)
+{
+    return words_len != 80 ? 4 : block_len != 16 ? 2 : 0;
+}
+
+static uint32_t expand_number(size_t key_len, size_t words_len)
+{
+    return key_len != 16 ? 1 : words_len != 80 ? 4 : 0;
+}
+
+static uint32_t many_number(size_t key_len, size_t input_len, size_t output_len)
+{
+    return key_len != 16 ? 1 : input_len % 16 != 0 ? 2 : output_len != input_len ? 3 : 0;
+}
+
+static int sound(const gift_lane *lane)
+{
+    if (lane->direction > 1)
+        return 0;
+    switch (lane->phase) {
+    case 0: return lane->count == 0;
+    case 1: return lane->count <= 7;
+    case 2: return lane->count == 8;
+    default: return 0;
+    }
+}
+
+static uint32_t bench_number(const gift_lane *lanes, size_t lanes_len, uint32_t last)
+{
+    if (lanes_len != 4 || last > 3)
+        return 10;
+    for (unsigned i = 0; i < 4; i++)
+        if (!sound(&lanes[i]))
+            return 10;
+    return 0;
+}
+
+static uint32_t lane_number(const gift_lane *lanes, size_t lanes_len, uint32_t last, uint32_t lane)
+{
+    uint32_t number = bench_number(lanes, lanes_len, last);
+    return number != 0 ? number : lane > 3 ? 5 : 0;
+}
+
+static uint32_t open_number(const gift_lane *lanes, size_t lanes_len, uint32_t last, uint32_t lane, uint32_t direction, size_t key_len,
+                            size_t block_len)
+{
+    uint32_t number = lane_number(lanes, lanes_len, last, lane);
+    if (number != 0)
+        return number;
+    return lanes[lane].phase != 0 ? 6 : direction > 1 ? 9 : key_number(key_len, block_len);
+}
+
+static uint32_t turn_number(const gift_lane *lanes, size_t lanes_len, uint32_t last, uint32_t asked)
+{
+    uint32_t number = bench_number(lanes, lanes_len, last);
+    return number != 0 ? number : asked > 1024 ? 8 : 0;
+}
+
+static uint32_t take_number(const gift_lane *lanes, size_t lanes_len, uint32_t last, uint32_t lane, size_t out_len)
+{
+    uint32_t number = lane_number(lanes, lanes_len, last, lane);
+    if (number != 0)
+        return number;
+    return lanes[lane].phase != 2 ? 7 : out_len != 16 ? 2 : 0;
+}

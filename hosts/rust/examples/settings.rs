@@ -1,0 +1,50 @@
+//! A metered host: it decrypts settings that came as blocks between its guests' slices of work, three turns at a time.
+
+use gift_host::{Bench, Direction, Gift128, Refusal};
+
+// [readme:
+/// Between two slices of work: a few turns, each of them five rounds in one lane, and what is finished.
+fn between_slices(bench: &mut Bench, mut apply: impl FnMut(u32, [u8; 16])) -> Result<(), Refusal> {
+    bench.turn(3)?;
+    for lane in 0..Bench::LANES {
+        match bench.take(lane) {
+            Ok(setting) => apply(lane, setting),
+            Err(Refusal::LaneNotFinished) => (),
+            Err(refusal) => return Err(refusal),
+        }
+    }
+    Ok(())
+}
+// :readme]
+
+fn main() -> Result<(), Refusal> {
+    let key = *b"sixteen byte key";
+    let settings = [
+        *b"lamp=on  dim=040",
+        *b"pump=off rpm=000",
+        *b"door=shut bolt=1",
+        *b"heat=19C fan=low",
+    ];
+    let mut blocks = settings;
+    Gift128::new(&key).encrypt_blocks(&mut blocks);
+
+    let mut bench = Bench::new();
+    for (lane, block) in (0..).zip(&blocks) {
+        bench.open(lane, Direction::Decrypt, &key, block)?;
+    }
+    let mut taken = 0;
+    for slice in 1.. {
+        if slice == 5 {
+            bench.close(2)?;
+        }
+        between_slices(&mut bench, |lane, setting| {
+            println!("after slice {slice}: {}", String::from_utf8_lossy(&setting));
+            assert_eq!(setting, settings[lane as usize]);
+            taken += 1;
+        })?;
+        if taken == 3 {
+            break;
+        }
+    }
+    Ok(())
+}

@@ -1,0 +1,179 @@
+//! The bench: four lanes that take turns, a few rounds at a time.
+
+use core::fmt;
+use core::mem::offset_of;
+
+use crate::{calls, Refusal};
+
+/// What a lane is opened for.
+#[derive(Clone, Copy, Debug, PartialEq, Eq, Hash)]
+#[repr(u8)]
+pub enum Direction {
+    /// 0
+    Encrypt = 0,
+    /// 1
+    Decrypt = 1,
+}
+
+/// A block's four words: bit i of word j is bit 4i+j of the block, whose first byte is the most significant.
+#[derive(Clone, Copy, Default, PartialEq, Eq)]
+#[repr(C)]
+#[allow(missing_docs)]
+pub struct State {
+    pub s0: u32,
+    pub s1: u32,
+    pub s2: u32,
+    pub s3: u32,
+}
+
+/// One lane's record. It is sound if its direction is 0 or 1 and it is idle with count 0, running with count 0 to 7, or finished with count 8.
+#[derive(Clone, Copy, PartialEq, Eq)]
+#[repr(C)]
+pub struct Lane {
+    /// [`Lane::IDLE`], [`Lane::RUNNING`] or [`Lane::FINISHED`].
+    pub phase: u8,
+    /// 0 encrypts, 1 decrypts.
+    pub direction: u8,
+    /// Its own turns since it was opened.
+    pub count: u8,
+    /// Its round words. They stay after a take or a close, until the next opening.
+    pub words: [u32; 80],
+    /// Its block, as far as it has come.
+    pub state: State,
+}
+
+// As include/gift_host.h has it.
+const _: () = assert!(size_of::<State>() == 16);
+const _: () = assert!(size_of::<Lane>() == 340 && align_of::<Lane>() == 4);
+const _: () = assert!(
+    offset_of!(Lane, phase) == 0
+        && offset_of!(Lane, direction) == 1
+        && offset_of!(Lane, count) == 2
+);
+const _: () = assert!(offset_of!(Lane, words) == 4 && offset_of!(Lane, state) == 324);
+
+impl Lane {
+    /// The phase of a lane that can be opened.
+    pub const IDLE: u8 = 0;
+    /// The phase of a lane that takes turns.
+    pub const RUNNING: u8 = 1;
+    /// The phase of a lane whose block can be taken.
+    pub const FINISHED: u8 = 2;
+
+    /// A lane of a fresh bench: idle, and all zero.
+    pub const FRESH: Lane = Lane {
+        phase: Lane::IDLE,
+        direction: 0,
+        count: 0,
+        words: [0; 80],
+        state: State {
+            s0: 0,
+            s1: 0,
+            s2: 0,
+            s3: 0,
+        },
+    };
+}
+
+/// Tells neither round words nor state.
+impl fmt::Debug for Lane {
+    fn fmt(&self, f: &mut fmt::Formatter<'_>) -> fmt::Result {
+        f.debug_struct("Lane")
+            .field("phase", &self.phase)
+            .field("direction", &self.direction)
+            .field("count", &self.count)
+            .finish_non_exhaustive()
+    }
+}
+
+/// Four lanes, and the number of the one last served.
+///
+/// An opened lane that is not closed is finished no later than the 32nd turn made after its opening, whatever the other lanes do. On a refusal the bench is
+/// as it was.
+#[derive(Clone, Debug, PartialEq, Eq)]
+pub struct Bench {
+    lanes: [Lane; 4],
+    last: u32,
+}
+
+impl Default for Bench {
+    fn default() -> Bench {
+        Bench::new()
+    }
+}
+
+impl Bench {
+    /// How many lanes a bench has.
+    pub const LANES: u32 = 4;
+    /// The most turns that one call may ask for.
+    pub const MOST_TURNS: u32 = 1024;
+    /// A lane's own turns from its opening until it is finished, each of five rounds.
+    pub const TURNS_OF_A_LANE: u32 = 8;
+
+    /// A fresh bench: every lane is idle, and the first turn looks at lane 0 first.
+    pub const fn new() -> Bench {
+        Bench {
+            lanes: [Lane::FRESH; 4],
+            last: 3,
+        }
+    }
+
+    /// A bench of records from elsewhere. Sound ones are served with the words that they hold; where one is not sound, or `last` is above 3, every
+    /// call answers [`Refusal::BadBench`].
+    pub const fn from_records(lanes: [Lane; 4], last: u32) -> Bench {
+        Bench { lanes, last }
+    }
+
+    /// The four records.
+    pub const fn records(&self) -> &[Lane; 4] {
+        &self.lanes
+    }
+
+    /// The number of the lane last served.
+    pub const fn last_served(&self) -> u32 {
+        self.last
+    }
+
+    /// Opens an idle lane on a key and a block, which are not needed afterwards. Refusals: 10, 5, 6, 1, 2.
+    pub fn open(
+        &mut self,
+        lane: u32,
+        direction: Direction,
+        key: &[u8],
+        block: &[u8],
+    ) -> Result<(), Refusal> {
+        calls::open_lane(
+            &mut self.lanes,
+            self.last,
+            lane,
+            direction as u32,
+            key,
+            block,
+        )
+    }
+
+    /// Makes as many turns as are asked for, or fewer if no lane runs any more, and tells how many were made. Each serves the first running lane
+    /// after the last served one, in cyclic order. Refusals: 10, 8.
+    pub fn turn(&mut self, asked: u32) -> Result<u32, Refusal> {
+        let turns = calls::turn(&mut self.lanes, self.last, asked)?;
+        self.last = turns.last;
+        Ok(turns.made)
+    }
+
+    /// Takes the block of a finished lane, which is idle afterwards. Refusals: 10, 5, 7.
+    pub fn take(&mut self, lane: u32) -> Result<[u8; 16], Refusal> {
+        let mut block = [0; 16];
+        self.take_into(lane, &mut block)?;
+        Ok(block)
+    }
+
+    /// The same into a buffer of the caller's. Refusals: 10, 5, 7, 2.
+    pub fn take_into(&mut self, lane: u32, out: &mut [u8]) -> Result<(), Refusal> {
+        calls::take(&mut self.lanes, self.last, lane, out)
+    }
+
+    /// Makes a lane idle as after a take, whatever it was. Refusals: 10, 5.
+    pub fn close(&mut self, lane: u32) -> Result<(), Refusal> {
+        calls::close(&mut self.lanes, self.last, lane)
+    }
+}

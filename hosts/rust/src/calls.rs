@@ -1,0 +1,202 @@
+//! The library's eleven functions, each over slices and plain numbers: all that can be refused is. The only unsafe code of the crate.
+//!
+//! What include/gift_host.h asks of a host is what references already are: not null, aligned, as long as they say, everything in them given a
+//! value, and a `&mut` alone in reaching what it reaches. So each call is safe.
+#![allow(unsafe_code)]
+
+use crate::bench::Lane;
+use crate::Refusal;
+
+/// What a call for turns tells.
+#[derive(Clone, Copy, Debug, PartialEq, Eq)]
+pub struct Turns {
+    /// How many turns were made.
+    pub made: u32,
+    /// The last served number from now on; the one passed, if no turn was made.
+    pub last: u32,
+}
+
+#[repr(C)]
+struct Told {
+    code: u32,
+    made: u32,
+    last: u32,
+}
+
+const _: () = assert!(size_of::<Told>() == 12);
+
+extern "C" {
+    fn gift_encrypt_by_key(key: *const u8, key_len: usize, block: *mut u8, block_len: usize)
+        -> u32;
+    fn gift_decrypt_by_key(key: *const u8, key_len: usize, block: *mut u8, block_len: usize)
+        -> u32;
+    fn gift_encrypt_by_words(
+        words: *const u32,
+        words_len: usize,
+        block: *mut u8,
+        block_len: usize,
+    ) -> u32;
+    fn gift_decrypt_by_words(
+        words: *const u32,
+        words_len: usize,
+        block: *mut u8,
+        block_len: usize,
+    ) -> u32;
+    fn gift_expand(key: *const u8, key_len: usize, words: *mut u32, words_len: usize) -> u32;
+    fn gift_encrypt_blocks(
+        key: *const u8,
+        key_len: usize,
+        input: *const u8,
+        input_len: usize,
+        output: *mut u8,
+        output_len: usize,
+    ) -> u32;
+    fn gift_decrypt_blocks(
+        key: *const u8,
+        key_len: usize,
+        input: *const u8,
+        input_len: usize,
+        output: *mut u8,
+        output_len: usize,
+    ) -> u32;
+    fn gift_open_lane(
+        lanes: *mut Lane,
+        lanes_len: usize,
+        last: u32,
+        lane: u32,
+        direction: u32,
+        key: *const u8,
+        key_len: usize,
+        block: *const u8,
+        block_len: usize,
+    ) -> u32;
+    fn gift_turn(lanes: *mut Lane, lanes_len: usize, last: u32, asked: u32) -> Told;
+    fn gift_take(
+        lanes: *mut Lane,
+        lanes_len: usize,
+        last: u32,
+        lane: u32,
+        out: *mut u8,
+        out_len: usize,
+    ) -> u32;
+    fn gift_close(lanes: *mut Lane, lanes_len: usize, last: u32, lane: u32) -> u32;
+}
+
+fn answer(number: u32) -> Result<(), Refusal> {
+    if number == 0 {
+        return Ok(());
+    }
+    Err(Refusal::try_from(number).unwrap_or_else(|n| {
+        panic!("{n} is no answer of gift_host: another library is linked under its names")
+    }))
+}
+
+/// Encrypts one block by a key, in place. Refusals: 1, 2.
+pub fn encrypt_by_key(key: &[u8], block: &mut [u8]) -> Result<(), Refusal> {
+    answer(unsafe { gift_encrypt_by_key(key.as_ptr(), key.len(), block.as_mut_ptr(), block.len()) })
+}
+
+/// Decrypts one block by a key, in place. Refusals: 1, 2.
+pub fn decrypt_by_key(key: &[u8], block: &mut [u8]) -> Result<(), Refusal> {
+    answer(unsafe { gift_decrypt_by_key(key.as_ptr(), key.len(), block.as_mut_ptr(), block.len()) })
+}
+
+/// Encrypts one block by 80 round words, in place: those of [`expand`], or any others. Refusals: 4, 2.
+pub fn encrypt_by_words(words: &[u32], block: &mut [u8]) -> Result<(), Refusal> {
+    answer(unsafe {
+        gift_encrypt_by_words(words.as_ptr(), words.len(), block.as_mut_ptr(), block.len())
+    })
+}
+
+/// Decrypts one block by 80 round words, in place. Refusals: 4, 2.
+pub fn decrypt_by_words(words: &[u32], block: &mut [u8]) -> Result<(), Refusal> {
+    answer(unsafe {
+        gift_decrypt_by_words(words.as_ptr(), words.len(), block.as_mut_ptr(), block.len())
+    })
+}
+
+/// Fills `words` with the 80 round words of a key. Refusals: 1, 4.
+pub fn expand(key: &[u8], words: &mut [u32]) -> Result<(), Refusal> {
+    answer(unsafe { gift_expand(key.as_ptr(), key.len(), words.as_mut_ptr(), words.len()) })
+}
+
+/// Encrypts many blocks by a key: block n of the output from block n of the input, each by itself. Refusals: 1, 2, 3.
+pub fn encrypt_blocks(key: &[u8], input: &[u8], output: &mut [u8]) -> Result<(), Refusal> {
+    answer(unsafe {
+        gift_encrypt_blocks(
+            key.as_ptr(),
+            key.len(),
+            input.as_ptr(),
+            input.len(),
+            output.as_mut_ptr(),
+            output.len(),
+        )
+    })
+}
+
+/// Decrypts many blocks by a key. Refusals: 1, 2, 3.
+pub fn decrypt_blocks(key: &[u8], input: &[u8], output: &mut [u8]) -> Result<(), Refusal> {
+    answer(unsafe {
+        gift_decrypt_blocks(
+            key.as_ptr(),
+            key.len(),
+            input.as_ptr(),
+            input.len(),
+            output.as_mut_ptr(),
+            output.len(),
+        )
+    })
+}
+
+/// Opens an idle lane of a lent bench on a key and a block, to encrypt (0) or decrypt (1). Refusals: 10, 5, 6, 9, 1, 2.
+pub fn open_lane(
+    lanes: &mut [Lane],
+    last: u32,
+    lane: u32,
+    direction: u32,
+    key: &[u8],
+    block: &[u8],
+) -> Result<(), Refusal> {
+    answer(unsafe {
+        gift_open_lane(
+            lanes.as_mut_ptr(),
+            lanes.len(),
+            last,
+            lane,
+            direction,
+            key.as_ptr(),
+            key.len(),
+            block.as_ptr(),
+            block.len(),
+        )
+    })
+}
+
+/// Makes as many turns as are asked for, or fewer if no lane runs any more. Refusals: 10, 8; then no turn was made.
+pub fn turn(lanes: &mut [Lane], last: u32, asked: u32) -> Result<Turns, Refusal> {
+    let told = unsafe { gift_turn(lanes.as_mut_ptr(), lanes.len(), last, asked) };
+    answer(told.code)?;
+    Ok(Turns {
+        made: told.made,
+        last: told.last,
+    })
+}
+
+/// Writes the 16 bytes of a finished lane, which is idle afterwards. Refusals: 10, 5, 7, 2.
+pub fn take(lanes: &mut [Lane], last: u32, lane: u32, out: &mut [u8]) -> Result<(), Refusal> {
+    answer(unsafe {
+        gift_take(
+            lanes.as_mut_ptr(),
+            lanes.len(),
+            last,
+            lane,
+            out.as_mut_ptr(),
+            out.len(),
+        )
+    })
+}
+
+/// Makes a lane idle as after a take, whatever it was. Refusals: 10, 5.
+pub fn close(lanes: &mut [Lane], last: u32, lane: u32) -> Result<(), Refusal> {
+    answer(unsafe { gift_close(lanes.as_mut_ptr(), lanes.len(), last, lane) })
+}

@@ -1,0 +1,85 @@
+// The crate's root, and Gift128. What is told of the crate as a whole is README.md.
+#![doc = include_str!("../README.md")]
+#![no_std]
+#![deny(unsafe_code)]
+#![warn(missing_docs)]
+
+mod bench;
+pub mod calls;
+mod refusal;
+
+use core::fmt;
+
+pub use bench::{Bench, Direction, Lane, State};
+pub use refusal::Refusal;
+
+/// A cipher instance: the 80 round words of its key.
+#[derive(Clone)]
+pub struct Gift128 {
+    k: [u32; 80],
+}
+
+/// What the types have made sure of, the library is proved to accept.
+const BY_TYPE: &str = "no length is wrong";
+
+impl Gift128 {
+    /// Bytes of a block.
+    pub const BLOCK_SIZE: usize = 16;
+    /// Bytes of a key.
+    pub const KEY_SIZE: usize = 16;
+    /// Rounds of a block.
+    pub const ROUNDS: usize = 40;
+
+    /// The instance of a key.
+    pub fn new(key: &[u8; 16]) -> Gift128 {
+        Gift128::new_from_slice(key).expect(BY_TYPE)
+    }
+
+    /// The instance of a key whose length is still to be seen. Refusal: 1.
+    pub fn new_from_slice(key: &[u8]) -> Result<Gift128, Refusal> {
+        let mut k = [0; 80];
+        calls::expand(key, &mut k)?;
+        Ok(Gift128 { k })
+    }
+
+    /// Encrypts one block in place.
+    pub fn encrypt_block(&self, block: &mut [u8; 16]) {
+        self.encrypt_slice(block).expect(BY_TYPE)
+    }
+
+    /// Decrypts one block in place.
+    pub fn decrypt_block(&self, block: &mut [u8; 16]) {
+        self.decrypt_slice(block).expect(BY_TYPE)
+    }
+
+    /// Encrypts one block whose length is still to be seen. Refusal: 2.
+    pub fn encrypt_slice(&self, block: &mut [u8]) -> Result<(), Refusal> {
+        calls::encrypt_by_words(&self.k, block)
+    }
+
+    /// Decrypts one block whose length is still to be seen. Refusal: 2.
+    pub fn decrypt_slice(&self, block: &mut [u8]) -> Result<(), Refusal> {
+        calls::decrypt_by_words(&self.k, block)
+    }
+
+    /// Encrypts each block by itself, in place.
+    pub fn encrypt_blocks(&self, blocks: &mut [[u8; 16]]) {
+        blocks
+            .iter_mut()
+            .for_each(|block| self.encrypt_block(block))
+    }
+
+    /// Decrypts each block by itself, in place.
+    pub fn decrypt_blocks(&self, blocks: &mut [[u8; 16]]) {
+        blocks
+            .iter_mut()
+            .for_each(|block| self.decrypt_block(block))
+    }
+}
+
+/// Does not tell the round words.
+impl fmt::Debug for Gift128 {
+    fn fmt(&self, f: &mut fmt::Formatter<'_>) -> fmt::Result {
+        f.write_str("Gift128 { ... }")
+    }
+}

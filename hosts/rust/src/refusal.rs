@@ -1,0 +1,87 @@
+//! The ten refusals, by name and by number.
+
+use core::fmt;
+
+/// Why a call was refused. What was lent to it is as it was before.
+#[derive(Clone, Copy, Debug, PartialEq, Eq, Hash)]
+#[repr(u32)]
+pub enum Refusal {
+    /// 1: the key is not of 16 bytes.
+    BadKeyLength = 1,
+    /// 2: a block or take buffer is not of 16 bytes; many blocks: the input's length is not a multiple of 16.
+    BadBlockLength = 2,
+    /// 3: the output is not as long as the input.
+    BadOutputLength = 3,
+    /// 4: the round words are not 80.
+    BadWordCount = 4,
+    /// 5: a lane number above 3.
+    BadLane = 5,
+    /// 6: opening a lane that is not idle.
+    LaneNotIdle = 6,
+    /// 7: taking from a lane that is not finished.
+    LaneNotFinished = 7,
+    /// 8: more than 1,024 turns asked.
+    TooManyTurns = 8,
+    /// 9: a direction that is neither 0 nor 1.
+    BadDirection = 9,
+    /// 10: not four records, last served above 3, or a record that is not sound.
+    BadBench = 10,
+}
+
+impl Refusal {
+    /// All ten, in the order of their numbers.
+    pub const ALL: [Refusal; 10] = [
+        Refusal::BadKeyLength,
+        Refusal::BadBlockLength,
+        Refusal::BadOutputLength,
+        Refusal::BadWordCount,
+        Refusal::BadLane,
+        Refusal::LaneNotIdle,
+        Refusal::LaneNotFinished,
+        Refusal::TooManyTurns,
+        Refusal::BadDirection,
+        Refusal::BadBench,
+    ];
+
+    /// Its number, 1 to 10.
+    pub const fn number(self) -> u32 {
+        self as u32
+    }
+}
+
+impl From<Refusal> for u32 {
+    fn from(refusal: Refusal) -> u32 {
+        refusal.number()
+    }
+}
+
+/// Of a number that is no refusal's, the number itself is given back.
+impl TryFrom<u32> for Refusal {
+    type Error = u32;
+
+    fn try_from(number: u32) -> Result<Refusal, u32> {
+        Refusal::ALL
+            .into_iter()
+            .find(|r| r.number() == number)
+            .ok_or(number)
+    }
+}
+
+impl fmt::Display for Refusal {
+    fn fmt(&self, f: &mut fmt::Formatter<'_>) -> fmt::Result {
+        f.write_str(match self {
+            Refusal::BadKeyLength => "the key is not of 16 bytes",
+            Refusal::BadBlockLength => "a block is not of 16 bytes",
+            Refusal::BadOutputLength => "the output is not as long as the input",
+            Refusal::BadWordCount => "the round words are not 80",
+            Refusal::BadLane => "there is no lane of this number",
+            Refusal::LaneNotIdle => "the lane is not idle",
+            Refusal::LaneNotFinished => "the lane is not finished",
+            Refusal::TooManyTurns => "more than 1,024 turns are asked",
+            Refusal::BadDirection => "the direction is neither 0 nor 1",
+            Refusal::BadBench => "the bench is not sound",
+        })
+    }
+}
+
+impl core::error::Error for Refusal {}

@@ -1,0 +1,328 @@
+//! Each refusal, in each call's order, and that nothing lent has changed after one.
+
+use gift_host::Refusal::*;
+use gift_host::{calls, Bench, Direction, Gift128, Lane, Refusal};
+
+const LENGTHS: [usize; 8] = [0, 1, 15, 16, 17, 32, 79, 80];
+const WORD_COUNTS: [usize; 7] = [0, 1, 16, 79, 80, 81, 160];
+
+#[test]
+fn numbers_and_names() {
+    for (n, refusal) in (1..).zip(Refusal::ALL) {
+        assert_eq!(
+            (refusal.number(), u32::from(refusal), Refusal::try_from(n)),
+            (n, n, Ok(refusal))
+        );
+    }
+    for n in [0, 11, 255, 256, 257, u32::MAX] {
+        assert_eq!(Refusal::try_from(n), Err(n));
+    }
+    let told: std::collections::HashSet<String> =
+        Refusal::ALL.iter().map(|r| r.to_string()).collect();
+    assert_eq!(told.len(), 10);
+}
+
+/// What a call on a copy of the lent buffer must answer, and that it leaves the buffer as it is exactly if it is refused.
+fn hold<T>(
+    lent: &[T],
+    must: Result<(), Refusal>,
+    call: impl FnOnce(&mut [T]) -> Result<(), Refusal>,
+) where
+    T: Clone + PartialEq,
+{
+    let mut buffer = lent.to_vec();
+    assert_eq!(call(&mut buffer), must);
+    assert_eq!(buffer == lent, must.is_err() || lent.is_empty());
+}
+
+#[test]
+fn lengths_of_one_block() {
+    for block in LENGTHS.map(|n| vec![9; n]) {
+        for key in LENGTHS.map(|n| vec![7; n]) {
+            let must = match (key.len(), block.len()) {
+                (16, 16) => Ok(()),
+                (16, _) => Err(BadBlockLength),
+                _ => Err(BadKeyLength),
+            };
+            hold(&block, must, |b| calls::encrypt_by_key(&key, b));
+            hold(&block, must, |b| calls::decrypt_by_key(&key, b));
+        }
+        for words in WORD_COUNTS.map(|n| vec![7; n]) {
+            let must = match (words.len(), block.len()) {
+                (80, 16) => Ok(()),
+                (80, _) => Err(BadBlockLength),
+                _ => Err(BadWordCount),
+            };
+            hold(&block, must, |b| calls::encrypt_by_words(&words, b));
+            hold(&block, must, |b| calls::decrypt_by_words(&words, b));
+        }
+        let cipher = Gift128::new(&[7; 16]);
+        let must = if block.len() == 16 {
+            Ok(())
+        } else {
+            Err(BadBlockLength)
+        };
+        hold(&block, must, |b| cipher.encrypt_slice(b));
+        hold(&block, must, |b| cipher.decrypt_slice(b));
+    }
+}
+
+#[test]
+fn lengths_of_an_expansion() {
+    for key in LENGTHS.map(|n| vec![7; n]) {
+        let instance = Gift128::new_from_slice(&key);
+        assert_eq!(instance.err(), (key.len() != 16).then_some(BadKeyLength));
+        for words in WORD_COUNTS.map(|n| vec![9; n]) {
+            let must = match (key.len(), words.len()) {
+                (16, 80) => Ok(()),
+                (16, _) => Err(BadWordCount),
+                _ => Err(BadKeyLength),
+            };
+            hold(&words, must, |w| calls::expand(&key, w));
+        }
+    }
+}
+
+#[test]
+fn lengths_of_many_blocks() {
+    for key in LENGTHS.map(|n| vec![7; n]) {
+        for input in LENGTHS.map(|n| vec![8; n]) {
+            for output in LENGTHS.map(|n| vec![9; n]) {
+                let must = match (key.len(), input.len() % 16, output.len() == input.len()) {
+                    (16, 0, true) => Ok(()),
+                    (16, 0, false) => Err(BadOutputLength),
+                    (16, ..) => Err(BadBlockLength),
+                    _ => Err(BadKeyLength),
+                };
+                hold(&output, must, |o| calls::encrypt_blocks(&key, &input, o));
+                hold(&output, must, |o| calls::decrypt_blocks(&key, &input, o));
+            }
+        }
+    }
+}
+
+/// Lane 0 finished, lane 1 running, lanes 2 and 3 idle.
+fn some_bench() -> Bench {
+    let mut bench = Bench::new();
+    bench
+        .open(0, Direction::Encrypt, &[1; 16], &[2; 16])
+        .unwrap();
+    assert_eq!(bench.turn(1024), Ok(8));
+    bench
+        .open(1, Direction::Decrypt, &[3; 16], &[4; 16])
+        .unwrap();
+    assert_eq!(bench.turn(3), Ok(3));
+    bench
+}
+
+/// What the call answers on a copy of the bench, which it must leave as it is.
+fn refused<T: std::fmt::Debug>(
+    bench: &Bench,
+    call: impl FnOnce(&mut Bench) -> Result<T, Refusal>,
+) -> Refusal {
+    let mut lent = bench.clone();
+    let refusal = call(&mut lent).unwrap_err();
+    assert_eq!(&lent, bench);
+    refusal
+}
+
+const KEY: &[u8] = &[5; 16];
+const BLOCK: &[u8] = &[6; 16];
+const SHORT: &[u8] = &[5; 15];
+const LONG: &[u8] = &[6; 17];
+
+#[test]
+fn bench_refusals_in_order() {
+    let bench = some_bench();
+    for lane in [4, 5, 255, 256, 257, 1 << 16, 1 << 31, u32::MAX] {
+        assert_eq!(
+            refused(&bench, |b| b.open(lane, Direction::Encrypt, SHORT, LONG)),
+            BadLane
+        );
+        assert_eq!(
+            refused(&bench, |b| b.take_into(lane, &mut [0; 17])),
+            BadLane
+        );
+        assert_eq!(refused(&bench, |b| b.close(lane)), BadLane);
+    }
+    for lane in [0, 1] {
+        assert_eq!(
+            refused(&bench, |b| b.open(lane, Direction::Encrypt, SHORT, LONG)),
+            LaneNotIdle
+        );
+    }
+    assert_eq!(
+        refused(&bench, |b| b.open(2, Direction::Encrypt, SHORT, LONG)),
+        BadKeyLength
+    );
+    assert_eq!(
+        refused(&bench, |b| b.open(2, Direction::Encrypt, KEY, LONG)),
+        BadBlockLength
+    );
+    for lane in [1, 2] {
+        assert_eq!(refused(&bench, |b| b.take(lane)), LaneNotFinished);
+        assert_eq!(
+            refused(&bench, |b| b.take_into(lane, &mut [0; 17])),
+            LaneNotFinished
+        );
+    }
+    for length in [0, 15, 17, 32] {
+        let mut out = vec![9; length];
+        assert_eq!(
+            refused(&bench, |b| b.take_into(0, &mut out)),
+            BadBlockLength
+        );
+        assert_eq!(out, vec![9; length]);
+    }
+    for asked in [1025, 1026, 1 << 16, 1 << 31, u32::MAX] {
+        assert_eq!(refused(&bench, |b| b.turn(asked)), TooManyTurns);
+    }
+}
+
+/// Directions and slices that the types of a `Bench` do not let through.
+#[test]
+fn refusals_of_lent_records() {
+    let bench = some_bench();
+    for direction in [2, 3, 255, 256, 257, 1 << 31, u32::MAX] {
+        let mut lanes = *bench.records();
+        assert_eq!(
+            calls::open_lane(&mut lanes, 3, 9, direction, SHORT, LONG),
+            Err(BadLane)
+        );
+        assert_eq!(
+            calls::open_lane(&mut lanes, 3, 0, direction, SHORT, LONG),
+            Err(LaneNotIdle)
+        );
+        assert_eq!(
+            calls::open_lane(&mut lanes, 3, 2, direction, SHORT, LONG),
+            Err(BadDirection)
+        );
+        assert_eq!(lanes, *bench.records());
+    }
+    for count in [0, 1, 3, 5, 8] {
+        let lent = vec![Lane::FRESH; count];
+        let mut lanes = lent.clone();
+        assert_eq!(
+            calls::open_lane(&mut lanes, 3, 9, 9, SHORT, LONG),
+            Err(BadBench)
+        );
+        assert_eq!(calls::turn(&mut lanes, 3, 5000), Err(BadBench));
+        assert_eq!(calls::take(&mut lanes, 3, 9, &mut [0; 17]), Err(BadBench));
+        assert_eq!(calls::close(&mut lanes, 3, 9), Err(BadBench));
+        assert_eq!(lanes, lent);
+    }
+}
+
+#[test]
+fn unsound_benches() {
+    let unsound = |lane: Lane| {
+        lane.direction > 1 || !matches!((lane.phase, lane.count), (0, 0) | (1, 0..=7) | (2, 8))
+    };
+    let mut refusals = 0;
+    for phase in [0, 1, 2, 3, 255] {
+        for direction in [0, 1, 2, 255] {
+            for count in [0, 1, 7, 8, 9, 255] {
+                for place in 0..4 {
+                    let mut lanes = *some_bench().records();
+                    lanes[place] = Lane {
+                        phase,
+                        direction,
+                        count,
+                        ..lanes[place]
+                    };
+                    let bench = Bench::from_records(lanes, 1);
+                    if unsound(lanes[place]) {
+                        refusals += 1;
+                        assert_eq!(
+                            refused(&bench, |b| b.open(9, Direction::Encrypt, SHORT, LONG)),
+                            BadBench
+                        );
+                        assert_eq!(refused(&bench, |b| b.turn(5000)), BadBench);
+                        assert_eq!(refused(&bench, |b| b.take(9)), BadBench);
+                        assert_eq!(refused(&bench, |b| b.close(9)), BadBench);
+                    } else {
+                        assert!(
+                            bench.clone().turn(0) == Ok(0)
+                                && bench.clone().close(place as u32) == Ok(())
+                        );
+                    }
+                }
+            }
+        }
+    }
+    assert!(refusals > 300);
+    for last in [4, 5, 255, 256, 1 << 31, u32::MAX] {
+        let bench = Bench::from_records(*some_bench().records(), last);
+        assert_eq!(
+            refused(&bench, |b| b.open(2, Direction::Encrypt, KEY, BLOCK)),
+            BadBench
+        );
+        assert_eq!(refused(&bench, |b| b.turn(0)), BadBench);
+        assert_eq!(refused(&bench, |b| b.take(0)), BadBench);
+        assert_eq!(refused(&bench, |b| b.close(3)), BadBench);
+    }
+}
+
+#[test]
+fn small_facts() {
+    let open_all = || {
+        let mut bench = Bench::new();
+        (0..4).for_each(|lane| bench.open(lane, Direction::Encrypt, KEY, BLOCK).unwrap());
+        bench
+    };
+    let phases = |bench: &Bench| bench.records().map(|lane| lane.phase);
+    let mut bench = open_all();
+    assert_eq!(
+        (bench.turn(31), phases(&bench), bench.last_served()),
+        (Ok(31), [2, 2, 2, 1], 2)
+    );
+    let mut bench = open_all();
+    assert_eq!(
+        (bench.turn(32), phases(&bench), bench.last_served()),
+        (Ok(32), [2, 2, 2, 2], 3)
+    );
+    assert_eq!(
+        (bench.turn(1), bench.turn(1024), bench.turn(0)),
+        (Ok(0), Ok(0), Ok(0))
+    );
+
+    let mut step_by_step = open_all();
+    for turns in 0..=32 {
+        let mut at_once = open_all();
+        assert_eq!(at_once.turn(turns), Ok(turns));
+        assert_eq!(at_once, step_by_step);
+        step_by_step.turn(1).unwrap();
+    }
+
+    let mut bench = Bench::new();
+    bench.open(2, Direction::Encrypt, KEY, BLOCK).unwrap();
+    assert_eq!((bench.turn(100), bench.last_served()), (Ok(8), 2));
+    let words = bench.records()[2].words;
+    assert!(
+        bench.take(2).is_ok()
+            && bench.records()[2]
+                == Lane {
+                    words,
+                    ..Lane::FRESH
+                }
+    );
+    assert_eq!(
+        (
+            bench.last_served(),
+            bench.close(2),
+            bench.records()[2].words == words
+        ),
+        (2, Ok(()), true)
+    );
+}
+
+#[test]
+fn round_words_are_not_told() {
+    let mut bench = Bench::new();
+    bench.open(0, Direction::Encrypt, KEY, BLOCK).unwrap();
+    assert_eq!(format!("{:?}", Gift128::new(&[5; 16])), "Gift128 { ... }");
+    assert_eq!(
+        format!("{:?}", bench.records()[0]),
+        "Lane { phase: 1, direction: 0, count: 0, .. }"
+    );
+}
