@@ -1,49 +1,18 @@
 //! Makes cases and the answers that the crate gives to them, as lines that the program `replay` reads.
 //!
-//! consts, primitives and key_schedule are the crate's own files, and blocks has the two block functions of its lib.rs, word for word; all
-//! four are put beside this file by `oracle/run`. What the crate cannot be asked comes from document 01, and is marked so below: the
+//! consts, primitives and key_schedule are the crate's own files, and blocks has the two block functions of its lib.rs, word for word;
+//! `oracle/run` puts them beside this file, and cipher, which stands in for the types that the two functions name. What the crate cannot be asked comes from document 01, and is marked so below: the
 //! refusals, since the crate takes arrays of the right length alone, and round 1 by itself, which it never stops after.
 
 mod blocks;
+mod cipher;
 mod consts;
 mod key_schedule;
 mod primitives;
 
+use cipher::{Gift128, InOut};
 use std::fmt::Display;
 use std::io::{self, BufWriter, Write};
-
-// ---- what stands in for the absent crate `cipher`: the types of the two block functions
-
-/// The crate's instance: its eighty round words.
-pub struct Gift128 {
-    k: [u32; 80],
-}
-
-pub trait HasBlock {
-    type Block;
-}
-
-impl HasBlock for Gift128 {
-    type Block = [u8; 16];
-}
-
-pub type Block<T> = <T as HasBlock>::Block;
-
-/// A block to read and a block to write.
-pub struct InOut<'a, 'b, T> {
-    inp: &'a T,
-    out: &'b mut T,
-}
-
-impl<T> InOut<'_, '_, T> {
-    pub fn get_in(&self) -> &T {
-        self.inp
-    }
-
-    pub fn get_out(&mut self) -> &mut T {
-        self.out
-    }
-}
 
 // ---- the crate's answers
 
@@ -69,7 +38,7 @@ impl Way {
 fn by_words(way: Way, k: &Words, block: &Bytes16) -> Bytes16 {
     let cipher = Gift128 { k: *k };
     let mut out = [0; 16];
-    let io = InOut { inp: block, out: &mut out };
+    let io = InOut { read: block, written: &mut out };
     match way {
         Encrypt => cipher.encrypt_block(io),
         Decrypt => cipher.decrypt_block(io),

@@ -1,8 +1,10 @@
 //! The crate that this one replaces, as the judge of its answers. hosts/rust/run puts its own files into target/hosts/oracle: three as they are, and in
-//! blocks.rs the two block functions of lib.rs, word for word.
+//! blocks.rs the two block functions of lib.rs, word for word; cipher.rs, beside them, stands in for the types that these name.
 
 #[path = "../../../../target/hosts/oracle/blocks.rs"]
 mod blocks;
+#[path = "../../../../target/hosts/oracle/cipher.rs"]
+mod cipher;
 #[path = "../../../../target/hosts/oracle/consts.rs"]
 mod consts;
 #[path = "../../../../target/hosts/oracle/key_schedule.rs"]
@@ -12,40 +14,8 @@ mod primitives;
 
 mod compare;
 
+use cipher::{Gift128, InOut};
 use gift_host::{Direction, State};
-
-// ---- what stands in for the absent crate `cipher`: the types of the two block functions
-
-struct Gift128 {
-    k: [u32; 80],
-}
-
-trait HasBlock {
-    type Block;
-}
-
-impl HasBlock for Gift128 {
-    type Block = [u8; 16];
-}
-
-type Block<T> = <T as HasBlock>::Block;
-
-struct InOut<'a, 'b, T> {
-    read: &'a T,
-    written: &'b mut T,
-}
-
-impl<T> InOut<'_, '_, T> {
-    fn get_in(&self) -> &T {
-        self.read
-    }
-
-    fn get_out(&mut self) -> &mut T {
-        self.written
-    }
-}
-
-// ---- the crate's answers
 
 fn round_words(key: &[u8; 16]) -> [u32; 80] {
     key_schedule::precompute_rkeys(key)
