@@ -2,12 +2,13 @@
 use mathlib.Core.Path.{_≡_, refl}
 use mathlib.Core.List.{List, [], _∷_, _++_, map}
 use Prim.Native.Nat.{ℕ, _*_}
-use lib.ListN.{replicate}
+use lib.ListN.{length, take, replicate}
 use Rattle.bench.specs.declared.Bench.{Bench}
 use Rattle.lane_record.specs.Record.{soundCount, soundLane, idleWith, opened, served, lacks}
 use Rattle.bench.specs.Turning.{laneCount, runs, after, seek, chosen, anyRuns, turned, turnedBy, servedBy, total}
 use Rattle.bench.specs.Calls.{freshBench, allSound, soundBench, put, idled, openCode, openOf, turnCode, turnOf, takeCode, takeOf, closeCode, closeOf}
-use Rattle.bench_history.specs.History.{Call, opening, turning, taking, closing, codeOf, leaves, tells, serves, run, log}
+use Rattle.bench_history.specs.History.{Call, opening, turning, taking, closing, codeOf, leaves, tells, serves, run, log, times, never, closes, releases}
+use Rattle.bench_history.specs.Promises.{Opening, Accepted, Unclosed, Kept, made, own}
 
 bytes : ℕ → List ℕ
 bytes n = replicate n 0
@@ -57,3 +58,22 @@ unfolding
     bytes encrypts decrypts four phases counts numbers astray soundCount soundLane idleWith opened served laneCount runs after seek chosen anyRuns turned turnedBy servedBy lacks total
     freshBench allSound soundBench put idled openCode openOf turnCode turnOf takeCode takeOf closeCode closeOf codeOf leaves tells serves run log
 examples = (refl, refl, refl, refl, refl, refl, refl, refl, refl, refl, refl, refl, refl, refl, refl)
+
+-- An opening that meets what the promises ask of one, with the last of its 32 turns the lane's eighth: no hypothesis is out of reach, and 32 is reached.
+fourth : Opening
+fourth =
+    record {
+      before = encrypts 0 ∷ decrypts 1 ∷ encrypts 2 ∷ encrypts 2 ∷ [];
+      lane = 3;
+      direction = 1;
+      key = bytes 16;
+      block = bytes 16;
+      since = taking 3 (bytes 16) ∷ turning 1025 ∷ closing 4 ∷ turning 31 ∷ decrypts 3 ∷ turning 1 ∷ [];
+    }
+
+reached-by-one : Accepted fourth × Unclosed fourth × Kept fourth × (length (made fourth) ≡ 32) × (times 3 (take 31 (made fourth)) ≡ 7) × (own fourth ≡ 8)
+unfolding
+    bytes encrypts decrypts soundCount soundLane idleWith opened served laneCount runs after seek chosen anyRuns turned turnedBy servedBy lacks total
+    freshBench allSound soundBench put idled openCode openOf turnCode turnOf takeCode takeOf closeCode closeOf codeOf leaves serves run log
+    fourth times never closes releases
+reached-by-one = (refl, refl, refl, refl, refl, refl)
