@@ -17,7 +17,7 @@ use Rattle.bench.specs.declared.Bench.{Bench}
 use Rattle.lane_record.specs.Record.{soundLane}
 use Rattle.bench.specs.Turning.{laneCount, laneAt}
 use Rattle.bench.specs.Calls.{allSound, soundBench, put}
-use Rattle.lane_record.proofs.Truth.{both, together}
+use Rattle.bits.proofs.Truth.{both, together}
 
 pub record Sound (b : Bench) : Type 0 where
   pub size : length (b .lanes) ≡ laneCount

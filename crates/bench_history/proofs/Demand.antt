@@ -18,7 +18,7 @@ use Rattle.bench.specs.declared.Bench.{Bench}
 use Rattle.lane_record.specs.Record.{idle, running, finished, soundLane, soundCount, idleWith, opened, lacks}
 use Rattle.bench.specs.Turning.{laneCount, laneAt}
 use Rattle.bench.specs.Calls.{freshBench, allSound, soundBench, takeCode, takeOf, takenBytes}
-use Rattle.lane_record.proofs.Truth.{both, together}
+use Rattle.bits.proofs.Truth.{both, together}
 use Rattle.lane_record.proofs.Records.{finished-count, sound-count}
 use Rattle.bench.proofs.Soundness.{Sound, is-sound, says-sound}
 use Rattle.bench_history.specs.History.{Call, opening, turning, taking, closing, codeOf, leaves, run, log, times, closes, releases, never, servedTimes}

@@ -15,7 +15,7 @@ use Rattle.lane_record.specs.declared.Lane.{Lane}
 use Rattle.bench.specs.declared.Bench.{Bench}
 use Rattle.lane_record.specs.Record.{idle, running, soundLane, served}
 use Rattle.bench.specs.Turning.{laneAt, chosen, anyRuns, turned, turnedBy, servedBy}
-use Rattle.lane_record.proofs.Truth.{both}
+use Rattle.bits.proofs.Truth.{both}
 use Rattle.lane_record.proofs.Records.{served-count, served-busy}
 use Rattle.bench.proofs.Soundness.{Sound, set-here, set-there}
 use Rattle.bench.proofs.Seeking.{chosen-lt}

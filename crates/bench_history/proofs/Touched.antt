@@ -12,7 +12,7 @@ use Rattle.bench.specs.declared.Bench.{Bench}
 use Rattle.lane_record.specs.Record.{idle, finished, soundLane, soundCount, idleWith, opened}
 use Rattle.bench.specs.Turning.{laneCount, laneAt, turnedBy, servedBy}
 use Rattle.bench.specs.Calls.{put, idled, takeOf, closeOf}
-use Rattle.lane_record.proofs.Truth.{together}
+use Rattle.bits.proofs.Truth.{together}
 use Rattle.bench.proofs.Soundness.{Sound, sound-put, set-here, set-there}
 use Rattle.bench.proofs.Made.{sound-turns}
 use Rattle.bench_history.specs.History.{Call, opening, turning, taking, closing, codeOf, leaves, serves, closes, releases}

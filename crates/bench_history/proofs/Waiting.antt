@@ -14,7 +14,7 @@ use Rattle.lane_record.specs.declared.Lane.{Lane}
 use Rattle.bench.specs.declared.Bench.{Bench}
 use Rattle.lane_record.specs.Record.{running, lacks}
 use Rattle.bench.specs.Turning.{laneCount, laneAt, runs, after, chosen, anyRuns, turned, turnedBy, servedBy}
-use Rattle.lane_record.proofs.Truth.{both}
+use Rattle.bits.proofs.Truth.{both}
 use Rattle.lane_record.proofs.Records.{served-lacks}
 use Rattle.bench.proofs.Soundness.{Sound}
 use Rattle.bench.proofs.Seeking.{some-lane, phase-runs, steps, steps-lt, steps-after, after-lt, Found, chosen-near, runs-any}

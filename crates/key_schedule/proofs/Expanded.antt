@@ -1,16 +1,16 @@
 -- The eighty words of a key: that they stand for the published U, V of all forty rounds, how many they are, that each has 32 bits, and the tens that they are made of.
 use mathlib.Core.Path.{_≡_, sym, ap, ap₂, _∙_}
 use mathlib.Core.List.{List, _++_}
-use Prim.Native.Nat.{ℕ, zero, suc, _*_, _^_, _<_}
+use Prim.Native.Nat.{ℕ, zero, suc, _*_}
 use lib.Dec.{lit<}
-use lib.ListN.{length, getD, take}
+use lib.ListN.{length, take}
 use Rattle.published.specs.Bytes.{fromBytes}
 use Rattle.published.specs.Key.{Key, keyOf, update, pairs}
 use Rattle.published.specs.Gift128.{pairOf, pairsOf}
 use Rattle.published.proofs.Gift128.{length-pairs}
 use Rattle.published.proofs.Reading.{Bytes}
 use Rattle.primitives.specs.Arranged.{pairsFrom}
-use Rattle.primitives.proofs.Pairs.{Fit, length-words, words-lt, pairs-words}
+use Rattle.primitives.proofs.Pairs.{Fit, length-words, pairs-words}
 use Rattle.key_schedule.specs.declared.Ten.{Ten}
 use Rattle.key_schedule.specs.Tens.{firstWords, fiveRounds, fiveLater, wordsOf, following, grown}
 use Rattle.key_schedule.specs.Expand.{expanded}
@@ -33,10 +33,6 @@ pairs-of-expanded key = pairs-words 0 (pairsOf key) (lit< tt) (fit-key key)
 pub length-expanded : (key : List ℕ) → length (expanded key) ≡ 80
 unfolding expanded pairsOf
 length-expanded key = length-words 0 (pairsOf key) ∙ ap (_*_ 2) (length-pairs pairOf 40 (keyOf (fromBytes key)))
-
-pub expanded-lt : (key : List ℕ) (i : ℕ) → getD (expanded key) i 0 < 2 ^ 32
-unfolding expanded
-expanded-lt key i = words-lt 0 (pairsOf key) i
 
 -- ---- as the code makes it: the first two tens from four words of the key, and six tens that follow
 

@@ -1,3 +1,2 @@
 -- The laws, for the crates above.
-pub mod Truth
 pub mod Records

@@ -9,7 +9,7 @@ use Rattle.bits.proofs.Computed.{cond-true}
 use Rattle.primitives.specs.declared.State.{State}
 use Rattle.lane_record.specs.declared.Lane.{Lane}
 use Rattle.lane_record.specs.Record.{running, finished, idle, soundCount, soundLane, advanced, served, lacks}
-use Rattle.lane_record.proofs.Truth.{both, together, cond-either}
+use Rattle.bits.proofs.Truth.{both, together, cond-either}
 
 -- a lane with a running record that is sound has turns left
 pub running-count : (l : Lane) → soundLane l ≡ true → l .phase ≡ running → l .count < 8

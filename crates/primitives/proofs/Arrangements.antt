@@ -22,17 +22,9 @@ pub there-and-back : (k i : ℕ) → k < 6 → i < 32 → nibbleAt k (nibbleAt (
 unfolding nibbleAt N P
 there-and-back k i hk hi = eqb→eq (nibbleAt k (nibbleAt (5 - k) i)) i (each-place (λ k i. eqb (nibbleAt k (nibbleAt (5 - k) i)) i) tt k i hk hi)
 
-pub back-and-there : (k i : ℕ) → k < 6 → i < 32 → nibbleAt (5 - k) (nibbleAt k i) ≡ i
-unfolding nibbleAt N P
-back-and-there k i hk hi = eqb→eq (nibbleAt (5 - k) (nibbleAt k i)) i (each-place (λ k i. eqb (nibbleAt (5 - k) (nibbleAt k i)) i) tt k i hk hi)
-
 pub arranged-lt : (k w : ℕ) → arranged k w < 2 ^ 32
 unfolding arranged
 arranged-lt k w = permuted-lt (nibbleAt k) w
-
-pub stands-lt : (k w : ℕ) → stands k w < 2 ^ 32
-unfolding stands
-stands-lt k w = permuted-lt (nibbleAt (5 - k)) w
 
 pub stands-arranged : (k w : ℕ) → k < 6 → w < 2 ^ 32 → stands k (arranged k w) ≡ w
 unfolding stands arranged
@@ -41,8 +33,3 @@ stands-arranged k w hk h =
   where
     rest-lt : (k i : ℕ) → k < 6 → i < 32 → nibbleAt (5 - k) i < 32
     rest-lt k i hk hi = nibbleAt-lt (5 - k) i (lt-of-le-of-lt (sub-le 5 k) (lit< tt)) hi
-
-pub arranged-stands : (k w : ℕ) → k < 6 → w < 2 ^ 32 → arranged k (stands k w) ≡ w
-unfolding stands arranged
-arranged-stands k w hk h =
-    permuted-then (nibbleAt k) (nibbleAt (5 - k)) w (λ i l. nibbleAt-lt k i hk l) ∙ permuted-id (λ i. nibbleAt (5 - k) (nibbleAt k i)) w (λ i l. back-and-there k i hk l) h

@@ -32,10 +32,6 @@ pub word-lt : (x j : ℕ) → word 128 x j < 2 ^ 32
 unfolding word
 word-lt x j = ofBits-lt 32 (λ i. bit x (4 * i + j))
 
-pub stateOf-words : (x : ℕ) → Words (stateOf x)
-unfolding stateOf
-stateOf-words x = (word-lt x 0, word-lt x 1, word-lt x 2, word-lt x 3)
-
 pub wordOf-stateOf : (x j : ℕ) → j < 4 → wordOf (stateOf x) j ≡ word 128 x j
 unfolding stateOf
 wordOf-stateOf x = four (λ (j : ℕ). wordOf (stateOf x) j ≡ word 128 x j) refl refl refl refl

@@ -4,11 +4,11 @@ use mathlib.Core.List.{List, [], _∷_}
 use Prim.Native.Nat.{ℕ, zero, suc, _+_, _*_, _^_, _<_, suc-le-suc}
 use native.Mathlib.Omega.{arith}
 use lib.Dec.{lit<}
-use lib.ListN.{length, getD, take, drop}
+use lib.ListN.{length, take, drop}
 use lib.Seq.{drop-drop}
 use Rattle.published.specs.Rounds.{Pair}
 use Rattle.primitives.specs.Arranged.{next, stands, wordsFrom, pairsFrom}
-use Rattle.primitives.proofs.Arrangements.{arranged-lt, stands-arranged}
+use Rattle.primitives.proofs.Arrangements.{stands-arranged}
 
 abbrev double : ℕ → ℕ
 double zero = 0
@@ -70,13 +70,6 @@ pub length-words : (k : ℕ) (ps : List Pair) → length (wordsFrom k ps) ≡ 2 
 unfolding wordsFrom
 length-words k [] = refl
 length-words k (p ∷ ps) = omega (arith, length-words (next k) ps)
-
-pub words-lt : (k : ℕ) (ps : List Pair) (i : ℕ) → getD (wordsFrom k ps) i 0 < 2 ^ 32
-unfolding wordsFrom
-words-lt k [] i = lit< tt
-words-lt k (p ∷ ps) zero = arranged-lt (suc k) (p .v)
-words-lt k (p ∷ ps) (suc zero) = arranged-lt (suc k) (p .u)
-words-lt k (p ∷ ps) (suc (suc i)) = words-lt (next k) ps i
 
 -- pairs of 32 bits each
 abbrev pub Fit : List Pair → Type 0

@@ -10,7 +10,7 @@ use lib.Dec.{lit<}
 use lib.ListN.{length, getD}
 use Rattle.bits.specs.Digit.{digit, number, bit}
 use Rattle.bits.proofs.Bits.{bit-digit}
-use Rattle.bits.proofs.Digits.{number-digit, digit-lt, digit-top, digit-below}
+use Rattle.bits.proofs.Digits.{number-digit, digit-top, digit-below}
 use Rattle.published.specs.Bytes.{fromBytes, toBytes}
 
 base : zero < 256
@@ -31,12 +31,6 @@ no-bytes i = base
 pub more-bytes : (b : ℕ) (bs : List ℕ) → b < 256 → Bytes bs → Bytes (b ∷ bs)
 more-bytes b bs h hs zero = h
 more-bytes b bs h hs (suc i) = hs i
-
-pub toBytes-bytes : (k x : ℕ) → Bytes (toBytes k x)
-unfolding toBytes
-toBytes-bytes zero x i = base
-toBytes-bytes (suc k) x zero = digit-lt 256 base x k
-toBytes-bytes (suc k) x (suc i) = toBytes-bytes k x i
 
 pub fromBytes-lt : (bs : List ℕ) → Bytes bs → fromBytes bs < 256 ^ length bs
 unfolding fromBytes

@@ -1,6 +1,6 @@
 -- Five rounds, one after the other: what the proofs of the two quintuple rounds chain.
 use mathlib.Core.Path.{_≡_, refl, sym, ap, ap₂, _∙_}
-use mathlib.Core.Bool.{Bool, cond, true, false, _&&_, false≢true}
+use mathlib.Core.Bool.{Bool, cond, true, false, _&&_}
 use mathlib.Core.List.{List, [], _∷_}
 use Prim.Native.Nat.{ℕ, zero, suc, _+_, _-_, _/_, _%_, _^_, _≤_, _<_, suc-le-suc}
 use native.Mathlib.Nat.{le-of-suc-le-suc, not-suc-le-zero}
@@ -10,6 +10,7 @@ use lib.Dec.{ltb, leb, eqb, lit<}
 use lib.ListN.{length, getD, take}
 use Rattle.bits.specs.Digit.{bit}
 use Rattle.bits.proofs.Bits.{ofBits-cong}
+use Rattle.bits.proofs.Truth.{both}
 use Rattle.bits.proofs.Computed.{cond-true, cond-false}
 use Rattle.published.specs.Rounds.{constant, round, rounds, unround, unrounds}
 use Rattle.primitives.specs.Packed.{wordOf, blockOf, stateOf}
@@ -25,10 +26,6 @@ use Rattle.quintuple.proofs.Fixslice.{blockIn, constant-lt, subround-is
 and-false : (b : Bool) → (b && false) ≡ false
 and-false false = refl
 and-false true = refl
-
-both : (a b : Bool) → a && b ≡ true → (a ≡ true) × (b ≡ true)
-both true b e = (refl, e)
-both false b e = absurd (false≢true e)
 
 -- the first n of a list, one by one
 listed : ℕ → (ℕ → ℕ) → List ℕ

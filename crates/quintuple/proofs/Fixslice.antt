@@ -80,10 +80,6 @@ bit-substituted : (f : ℕ → ℕ) (s : State) (j i : ℕ) → i < 32 → bit (
 unfolding substituted
 bit-substituted f s j i h = bit-ofBits 32 (λ k. bit (f (column s k)) j) i h
 
-pub substituted-lt : (f : ℕ → ℕ) (s : State) (j : ℕ) → substituted f s j < 2 ^ 32
-unfolding substituted
-substituted-lt f s j = ofBits-lt 32 (λ i. bit (f (column s i)) j)
-
 -- ---- one bit of a published round
 
 pub step-lt : (c : ℕ) → step c < 64
@@ -301,12 +297,6 @@ module _ (k : ℕ) (hk : k < 5) (s : State) (v u c : ℕ) (hs : Words s) (hv : v
       ∙ ap (λ (x : ℕ). bitXor x u) (there-again k 2 (bitXor (s .s2) u) hk (lit< tt) (xor-lt 32 (s .s2) u (hs .2) hu))
       ∙ xor-twice (s .s2) u (hs .2) hu)
       (ap (permuted (move k 0)) (back-again (unmoved k s v u c) unmoved-words 0 (lit< tt)) ∙ there-again k 0 (s .s3) hk (lit< tt) (hs .3))
-
-  pub unsubround-words : Words (unsubround k s v u c)
-  unfolding unsubround boxed
-  unsubround-words =
-      let t : State = unmoved k s v u c in
-      (substituted-lt unentry t 0, substituted-lt unentry t 1, substituted-lt unentry t 2, substituted-lt unentry t 3)
 
   pub unsubround-is-unround : (r : ℕ) → r < 64 → stands (suc k) c ≡ 2 ^ 31 + r
       → blockIn k (unsubround k s v u c) ≡ unround 128 1 (record { u = stands (suc k) u; v = stands (suc k) v }) r (blockIn (suc k) (exchangedOf s))

@@ -4,7 +4,7 @@ use borrow.Author.Needs.{needs}
 use borrow.Author.Tests.{lt-ltb, le-ltb}
 use Rattle.bench.specs.Turning.{laneCount}
 use Rattle.bench.specs.Calls.{closeCode, closeOf}
-use Rattle.lane_record.proofs.Truth.{told-false, told-true}
+use Rattle.bits.proofs.Truth.{told-false, told-true}
 use Rattle.bench.proofs.close.Statement.{statement}
 use Rattle.bench.proofs.close.Tie as tie
 

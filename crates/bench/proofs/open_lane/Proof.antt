@@ -4,7 +4,7 @@ use borrow.Author.Needs.{needs}
 use borrow.Author.Tests.{lt-ltb, le-ltb, lt-leb, le-leb, ne-eqb}
 use Rattle.bench.specs.Turning.{laneCount}
 use Rattle.bench.specs.Calls.{put, openCode, openOf}
-use Rattle.lane_record.proofs.Truth.{told-false, told-true}
+use Rattle.bits.proofs.Truth.{told-false, told-true}
 use Rattle.bench.proofs.open_lane.Statement.{statement}
 use Rattle.bench.proofs.open_lane.Tie as tie
 

@@ -6,7 +6,7 @@ use borrow.Author.Tests.{lt-ltb, le-ltb, ne-eqb}
 use Rattle.packing.specs.Packing.{unpacked}
 use Rattle.bench.specs.Turning.{laneCount}
 use Rattle.bench.specs.Calls.{takeCode, takeOf, takenBytes}
-use Rattle.lane_record.proofs.Truth.{told-false, told-true}
+use Rattle.bits.proofs.Truth.{told-false, told-true}
 use Rattle.bench.proofs.take.Statement.{statement}
 use Rattle.bench.proofs.take.Tie as tie
 

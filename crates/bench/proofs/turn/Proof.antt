@@ -4,7 +4,7 @@ use borrow.Author.Tests.{lt-leb, le-leb}
 use Rattle.bench.specs.Calls.{turnCode, turnOf}
 use Rattle.bench.proofs.Soundness.{is-sound}
 use Rattle.bench.proofs.Made.{made-is}
-use Rattle.lane_record.proofs.Truth.{told-false, told-true}
+use Rattle.bits.proofs.Truth.{told-false, told-true}
 use Rattle.bench.proofs.turn.Statement.{statement}
 use Rattle.bench.proofs.turn.Tie as tie
 

@@ -8,7 +8,7 @@ use native.Mathlib.Omega.{arith}
 use denote.Ref.{now}
 use lib.Dec.{lit<}
 use lib.ListN.{getD}
-use borrow.Author.Tests.{not-true, not-false}
+use Rattle.bits.proofs.Truth.{told-false, told-true}
 use Rattle.published.specs.Rounds.{unrounds}
 use Rattle.primitives.specs.Arranged.{pairsFrom}
 use Rattle.quintuple.specs.declared.Part.{Part}
@@ -21,12 +21,12 @@ use Rattle.quintuple.proofs.inv_quintuple_round.Tie as tie
 returns : tie.Need-returns
 returns c =
     let a = c .before .before .before .args in
-    unstays (a .state) (now (a .rkey)) (a .i) (sym (c .before .starts .ensures) ∙ not-true _ (c .if1 .taken))
+    unstays (a .state) (now (a .rkey)) (a .i) (told-false (c .before .starts .ensures) (c .if1 .taken))
 
 read-part-requires : tie.Need-read-part-requires
 read-part-requires c κs =
     let a = c .before .before .before .args in
-    let ok = is-good (now (a .rkey)) (a .i) (sym (c .before .starts .ensures) ∙ not-false _ (c .if1 .left)) in
+    let ok = is-good (now (a .rkey)) (a .i) (told-true (c .before .starts .ensures) (c .if1 .left)) in
     (ok .0, ok .1)
 
 returns-2 : tie.Need-returns-2
@@ -48,7 +48,7 @@ returns-2 c =
     let a = c13 .args in
     let ws : List ℕ = now (a .rkey) in
     let i : ℕ = a .i in
-    let ok = is-good ws i (sym (c11 .starts .ensures) ∙ not-false _ (c10 .if1 .left)) in
+    let ok = is-good ws i (told-true (c11 .starts .ensures) (c10 .if1 .left)) in
     let word : (n : ℕ) → getD ws n 0 < 2 ^ 32 = λ n. c11 .before .shared-slice-known .given n .fits in
     let b4 =
     go-back 4 (a .state) (exchangedOf (a .state)) (c8 .inv-round-4 .result) (getD ws 8 0) (getD ws 9 0) (tabled (i + 4)) (suc (suc (suc (suc (suc i))))) _ (lit< tt) (omega (arith, c13 .good)) (word 8) (word 9) (tabled-lt (i + 4))

@@ -8,7 +8,7 @@ use native.Mathlib.Omega.{arith}
 use denote.Ref.{now}
 use lib.Dec.{lit<}
 use lib.ListN.{getD}
-use borrow.Author.Tests.{not-true, not-false}
+use Rattle.bits.proofs.Truth.{told-false, told-true}
 use Rattle.published.specs.Rounds.{rounds}
 use Rattle.primitives.specs.Arranged.{pairsFrom}
 use Rattle.quintuple.specs.declared.Part.{Part}
@@ -21,12 +21,12 @@ use Rattle.quintuple.proofs.quintuple_round.Tie as tie
 returns : tie.Need-returns
 returns c =
     let a = c .before .before .before .args in
-    stays (a .state) (now (a .rkey)) (a .i) (sym (c .before .starts .ensures) ∙ not-true _ (c .if1 .taken))
+    stays (a .state) (now (a .rkey)) (a .i) (told-false (c .before .starts .ensures) (c .if1 .taken))
 
 read-part-requires : tie.Need-read-part-requires
 read-part-requires c κs =
     let a = c .before .before .before .args in
-    let ok = is-good (now (a .rkey)) (a .i) (sym (c .before .starts .ensures) ∙ not-false _ (c .if1 .left)) in
+    let ok = is-good (now (a .rkey)) (a .i) (told-true (c .before .starts .ensures) (c .if1 .left)) in
     (ok .0, ok .1)
 
 returns-2 : tie.Need-returns-2
@@ -48,7 +48,7 @@ returns-2 c =
     let a = c13 .args in
     let ws : List ℕ = now (a .rkey) in
     let i : ℕ = a .i in
-    let ok = is-good ws i (sym (c11 .starts .ensures) ∙ not-false _ (c10 .if1 .left)) in
+    let ok = is-good ws i (told-true (c11 .starts .ensures) (c10 .if1 .left)) in
     let b0 =
     go-on 0 (a .state) (c8 .round-0 .result) (c7 .exchanged .result) (getD ws 0 0) (getD ws 1 0) (tabled i) (suc i) _ (lit< tt) (carried 0 i i _ (lit< tt) (omega arith) (omega arith) refl refl) (blockIn-none (a .state))
     (c8 .round-0 .ensures ∙ ap (λ (p : Part). subround 0 (a .state) (p .v0) (p .u0) (p .c0)) (c9 .read-part .ensures)) (c7 .exchanged .ensures) in
