@@ -1,12 +1,12 @@
 -- Five rounds, one after the other: what the proofs of the two quintuple rounds chain.
 use mathlib.Core.Path.{_≡_, refl, sym, ap, ap₂, _∙_}
-use mathlib.Core.Bool.{Bool, cond, true, false, _&&_}
+use mathlib.Core.Bool.{Bool, true, false, _&&_}
 use mathlib.Core.List.{List, [], _∷_}
 use Prim.Native.Nat.{ℕ, zero, suc, _+_, _-_, _/_, _%_, _^_, _≤_, _<_, suc-le-suc}
 use native.Mathlib.Nat.{le-of-suc-le-suc, not-suc-le-zero}
 use native.Mathlib.Omega.{arith}
-use borrow.Author.Tests.{lt-ltb, le-leb, lt-leb, eq-eqb, leb-true, eqb-true}
-use lib.Dec.{ltb, leb, eqb, lit<}
+use borrow.Author.Tests.{le-leb, lt-leb, eq-eqb, leb-true, eqb-true}
+use lib.Dec.{leb, eqb}
 use lib.ListN.{length, getD, take}
 use Rattle.bits.specs.Digit.{bit}
 use Rattle.bits.proofs.Bits.{ofBits-cong}
@@ -53,18 +53,14 @@ first-ten ws h = take-listed 10 ws h
 
 pub tabled-lt : (r : ℕ) → tabled r < 2 ^ 32
 unfolding constantWord
-tabled-lt r = go (ltb r 40)
-  where
-    go : (b : Bool) → cond b (constantWord (r % 5) r) 0 < 2 ^ 32
-    go true = arranged-lt (suc (r % 5)) (2 ^ 31 + constant (suc r))
-    go false = lit< tt
+tabled-lt r = arranged-lt (suc (r % 5)) (2 ^ 31 + constant (suc r))
 
 -- a word of the table stands for its round's constant
-pub carried : (k r r′ c : ℕ) → k < 5 → r < 40 → r % 5 ≡ k → r ≡ r′ → c ≡ tabled r → stands (suc k) c ≡ 2 ^ 31 + constant (suc r′)
+pub carried : (k r r′ c : ℕ) → k < 5 → r % 5 ≡ k → r ≡ r′ → c ≡ tabled r → stands (suc k) c ≡ 2 ^ 31 + constant (suc r′)
 unfolding constantWord
-carried k r r′ c hk hr at same e =
+carried k r r′ c hk at same e =
     ap (stands (suc k))
-    (e ∙ cond-true _ _ _ (lt-ltb r 40 hr) ∙ ap₂ (λ (j m : ℕ). arranged (suc j) (2 ^ 31 + constant (suc m))) at same)
+    (e ∙ ap₂ (λ (j m : ℕ). arranged (suc j) (2 ^ 31 + constant (suc m))) at same)
     ∙ stands-arranged (suc k) (2 ^ 31 + constant (suc r′)) (suc-le-suc hk) (omega (arith, constant-lt (suc r′)))
 
 -- what a function of a quintuple's part gives, by what the part was read to be

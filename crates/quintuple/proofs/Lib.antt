@@ -1,4 +1,5 @@
 -- Laws of the boxes and rounds.
+pub mod Table
 pub mod Columns
 pub mod Shapes
 pub mod Fixslice

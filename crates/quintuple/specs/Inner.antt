@@ -1,8 +1,6 @@
 -- What the private functions give; no public contract cites this. The moves are said by what they mean, not by how the code makes them.
-use mathlib.Core.Bool.{cond}
 use mathlib.Core.List.{List}
 use Prim.Native.Nat.{ℕ, suc, _+_, _-_, _*_, _/_, _%_}
-use lib.Dec.{ltb}
 use lib.ListN.{getD}
 use lib.Bits.{bitXor}
 use Rattle.published.specs.Rounds.{P, entry, unentry}
@@ -46,9 +44,9 @@ unmoved k s v u c =
 unfoldable pub unsubround : ℕ → State → ℕ → ℕ → ℕ → State
 unsubround k s v u c = exchangedOf (boxed unentry (unmoved k s v u c))
 
--- word r of the table of constants, and 0 past its end
+-- the word of round r's constant, by the rule of the table
 abbrev pub tabled : ℕ → ℕ
-tabled r = cond (ltb r 40) (constantWord (r % 5) r) 0
+tabled r = constantWord (r % 5) r
 
 -- what a quintuple from round i on goes by
 abbrev pub partOf : List ℕ → ℕ → Part

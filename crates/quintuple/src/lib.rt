@@ -22,6 +22,7 @@ use primitives::swapmovesingle;
 
 pub mod consts;
 
+use consts::GIFT_RC;
 use consts::round_constant;
 
 // The table on every column. It leaves s0 and s3 exchanged.
@@ -239,22 +240,23 @@ fn read_part(rkey: &[u32], i: usize) -> Part
     requires { ⌜ i ≤ 35 ⌝ }
     ensures { λ r. ⌜ r ≡ partOf (now (rkey .entry)) i ⌝ }
 {
+    let table = GIFT_RC;
     Part {
         v0: rkey[0],
         u0: rkey[1],
-        c0: round_constant(i),
+        c0: table[i],
         v1: rkey[2],
         u1: rkey[3],
-        c1: round_constant(i + 1),
+        c1: table[i + 1],
         v2: rkey[4],
         u2: rkey[5],
-        c2: round_constant(i + 2),
+        c2: table[i + 2],
         v3: rkey[6],
         u3: rkey[7],
-        c3: round_constant(i + 3),
+        c3: table[i + 3],
         v4: rkey[8],
         u4: rkey[9],
-        c4: round_constant(i + 4),
+        c4: table[i + 4],
     }
 }
 

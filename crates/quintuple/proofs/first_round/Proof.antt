@@ -42,7 +42,7 @@ returns-2 c =
     same-words _ _ (c3 .unarranged .ensures) (c2 .unarranged2 .ensures) (c1 .unarranged3 .ensures) (c .unarranged4 .ensures) in
     let b =
     go-on 0 (a .state) (c4 .before .round-0 .result) x (getD ws 0 0) (getD ws 1 0) (k .round-constant .result) 1 _ (lit< tt)
-    (carried 0 0 0 _ (lit< tt) (lit< tt) refl refl (k .round-constant .ensures)) (blockIn-none (a .state)) (c4 .before .round-0 .ensures) (c4 .exchanged .ensures) in
+    (carried 0 0 0 _ (lit< tt) refl refl (k .round-constant .ensures)) (blockIn-none (a .state)) (c4 .before .round-0 .ensures) (c4 .exchanged .ensures) in
     sym
     (cond-true _ _ _ (le-leb 2 (length ws) few)
     ∙ ap (λ (l : List ℕ). stateOf (rounds 128 1 (pairsFrom 0 l) 0 (blockOf (a .state)))) (first-two ws few)

@@ -52,19 +52,19 @@ returns-2 c =
     let word : (n : ℕ) → getD ws n 0 < 2 ^ 32 = λ n. c11 .before .shared-slice-known .given n .fits in
     let b4 =
     go-back 4 (a .state) (exchangedOf (a .state)) (c8 .inv-round-4 .result) (getD ws 8 0) (getD ws 9 0) (tabled (i + 4)) (suc (suc (suc (suc (suc i))))) _ (lit< tt) (omega (arith, c13 .good)) (word 8) (word 9) (tabled-lt (i + 4))
-    (carried 4 (i + 4) (suc (suc (suc (suc i)))) _ (lit< tt) (omega arith) (omega arith) (add-four i) refl) (blockIn-five (a .state)) refl (by-part (λ (p : Part). unsubround 4 (exchangedOf (a .state)) (p .v4) (p .u4) (p .c4)) (c9 .read-part .result) (partOf ws i) (c8 .inv-round-4 .result) (c8 .inv-round-4 .ensures) (c9 .read-part .ensures)) in
+    (carried 4 (i + 4) (suc (suc (suc (suc i)))) _ (lit< tt) (omega arith) (add-four i) refl) (blockIn-five (a .state)) refl (by-part (λ (p : Part). unsubround 4 (exchangedOf (a .state)) (p .v4) (p .u4) (p .c4)) (c9 .read-part .result) (partOf ws i) (c8 .inv-round-4 .result) (c8 .inv-round-4 .ensures) (c9 .read-part .ensures)) in
     let b3 =
     go-back 3 (c8 .inv-round-4 .result) (c7 .exchanged .result) (c6 .inv-round-3 .result) (getD ws 6 0) (getD ws 7 0) (tabled (i + 3)) (suc (suc (suc (suc i)))) _ (lit< tt) (omega (arith, c8 .inv-round-4 .ok)) (word 6) (word 7) (tabled-lt (i + 3))
-    (carried 3 (i + 3) (suc (suc (suc i))) _ (lit< tt) (omega arith) (omega arith) (add-three i) refl) b4 (c7 .exchanged .ensures) (by-part (λ (p : Part). unsubround 3 (c7 .exchanged .result) (p .v3) (p .u3) (p .c3)) (c9 .read-part .result) (partOf ws i) (c6 .inv-round-3 .result) (c6 .inv-round-3 .ensures) (c9 .read-part .ensures)) in
+    (carried 3 (i + 3) (suc (suc (suc i))) _ (lit< tt) (omega arith) (add-three i) refl) b4 (c7 .exchanged .ensures) (by-part (λ (p : Part). unsubround 3 (c7 .exchanged .result) (p .v3) (p .u3) (p .c3)) (c9 .read-part .result) (partOf ws i) (c6 .inv-round-3 .result) (c6 .inv-round-3 .ensures) (c9 .read-part .ensures)) in
     let b2 =
     go-back 2 (c6 .inv-round-3 .result) (c5 .exchanged2 .result) (c4 .inv-round-2 .result) (getD ws 4 0) (getD ws 5 0) (tabled (i + 2)) (suc (suc (suc i))) _ (lit< tt) (omega (arith, c6 .inv-round-3 .ok)) (word 4) (word 5) (tabled-lt (i + 2))
-    (carried 2 (i + 2) (suc (suc i)) _ (lit< tt) (omega arith) (omega arith) (add-two i) refl) b3 (c5 .exchanged2 .ensures) (by-part (λ (p : Part). unsubround 2 (c5 .exchanged2 .result) (p .v2) (p .u2) (p .c2)) (c9 .read-part .result) (partOf ws i) (c4 .inv-round-2 .result) (c4 .inv-round-2 .ensures) (c9 .read-part .ensures)) in
+    (carried 2 (i + 2) (suc (suc i)) _ (lit< tt) (omega arith) (add-two i) refl) b3 (c5 .exchanged2 .ensures) (by-part (λ (p : Part). unsubround 2 (c5 .exchanged2 .result) (p .v2) (p .u2) (p .c2)) (c9 .read-part .result) (partOf ws i) (c4 .inv-round-2 .result) (c4 .inv-round-2 .ensures) (c9 .read-part .ensures)) in
     let b1 =
     go-back 1 (c4 .inv-round-2 .result) (c3 .exchanged3 .result) (c2 .inv-round-1 .result) (getD ws 2 0) (getD ws 3 0) (tabled (i + 1)) (suc (suc i)) _ (lit< tt) (omega (arith, c4 .inv-round-2 .ok)) (word 2) (word 3) (tabled-lt (i + 1))
-    (carried 1 (i + 1) (suc i) _ (lit< tt) (omega arith) (omega arith) (add-one i) refl) b2 (c3 .exchanged3 .ensures) (by-part (λ (p : Part). unsubround 1 (c3 .exchanged3 .result) (p .v1) (p .u1) (p .c1)) (c9 .read-part .result) (partOf ws i) (c2 .inv-round-1 .result) (c2 .inv-round-1 .ensures) (c9 .read-part .ensures)) in
+    (carried 1 (i + 1) (suc i) _ (lit< tt) (omega arith) (add-one i) refl) b2 (c3 .exchanged3 .ensures) (by-part (λ (p : Part). unsubround 1 (c3 .exchanged3 .result) (p .v1) (p .u1) (p .c1)) (c9 .read-part .result) (partOf ws i) (c2 .inv-round-1 .result) (c2 .inv-round-1 .ensures) (c9 .read-part .ensures)) in
     let b0 =
     go-back 0 (c2 .inv-round-1 .result) (c1 .exchanged4 .result) (c .inv-round-0 .result) (getD ws 0 0) (getD ws 1 0) (tabled i) (suc i) _ (lit< tt) (omega (arith, c2 .inv-round-1 .ok)) (word 0) (word 1) (tabled-lt i)
-    (carried 0 i i _ (lit< tt) (omega arith) (omega arith) refl refl) b1 (c1 .exchanged4 .ensures) (by-part (λ (p : Part). unsubround 0 (c1 .exchanged4 .result) (p .v0) (p .u0) (p .c0)) (c9 .read-part .result) (partOf ws i) (c .inv-round-0 .result) (c .inv-round-0 .ensures) (c9 .read-part .ensures)) in
+    (carried 0 i i _ (lit< tt) (omega arith) refl refl) b1 (c1 .exchanged4 .ensures) (by-part (λ (p : Part). unsubround 0 (c1 .exchanged4 .result) (p .v0) (p .u0) (p .c0)) (c9 .read-part .result) (partOf ws i) (c .inv-round-0 .result) (c .inv-round-0 .ensures) (c9 .read-part .ensures)) in
     undone (a .state) ws i (ok .0) (ok .1) (ok .2) (c .inv-round-0 .result) (omega (arith, c .inv-round-0 .ok)) (sym (blockIn-none (c .inv-round-0 .result)) ∙ b0)
 
 pub inv-quintuple-round-spec : {M : Type 1} → statement M

@@ -50,19 +50,19 @@ returns-2 c =
     let i : ℕ = a .i in
     let ok = is-good ws i (told-true (c11 .starts .ensures) (c10 .if1 .left)) in
     let b0 =
-    go-on 0 (a .state) (c8 .round-0 .result) (c7 .exchanged .result) (getD ws 0 0) (getD ws 1 0) (tabled i) (suc i) _ (lit< tt) (carried 0 i i _ (lit< tt) (omega arith) (omega arith) refl refl) (blockIn-none (a .state))
+    go-on 0 (a .state) (c8 .round-0 .result) (c7 .exchanged .result) (getD ws 0 0) (getD ws 1 0) (tabled i) (suc i) _ (lit< tt) (carried 0 i i _ (lit< tt) (omega arith) refl refl) (blockIn-none (a .state))
     (by-part (λ (p : Part). subround 0 (a .state) (p .v0) (p .u0) (p .c0)) (c9 .read-part .result) (partOf ws i) (c8 .round-0 .result) (c8 .round-0 .ensures) (c9 .read-part .ensures)) (c7 .exchanged .ensures) in
     let b1 =
-    go-on 1 (c7 .exchanged .result) (c6 .round-1 .result) (c5 .exchanged2 .result) (getD ws 2 0) (getD ws 3 0) (tabled (i + 1)) (suc (suc i)) _ (lit< tt) (carried 1 (i + 1) (suc i) _ (lit< tt) (omega arith) (omega arith) (add-one i) refl) b0
+    go-on 1 (c7 .exchanged .result) (c6 .round-1 .result) (c5 .exchanged2 .result) (getD ws 2 0) (getD ws 3 0) (tabled (i + 1)) (suc (suc i)) _ (lit< tt) (carried 1 (i + 1) (suc i) _ (lit< tt) (omega arith) (add-one i) refl) b0
     (by-part (λ (p : Part). subround 1 (c7 .exchanged .result) (p .v1) (p .u1) (p .c1)) (c9 .read-part .result) (partOf ws i) (c6 .round-1 .result) (c6 .round-1 .ensures) (c9 .read-part .ensures)) (c5 .exchanged2 .ensures) in
     let b2 =
-    go-on 2 (c5 .exchanged2 .result) (c4 .round-2 .result) (c3 .exchanged3 .result) (getD ws 4 0) (getD ws 5 0) (tabled (i + 2)) (suc (suc (suc i))) _ (lit< tt) (carried 2 (i + 2) (suc (suc i)) _ (lit< tt) (omega arith) (omega arith) (add-two i) refl) b1
+    go-on 2 (c5 .exchanged2 .result) (c4 .round-2 .result) (c3 .exchanged3 .result) (getD ws 4 0) (getD ws 5 0) (tabled (i + 2)) (suc (suc (suc i))) _ (lit< tt) (carried 2 (i + 2) (suc (suc i)) _ (lit< tt) (omega arith) (add-two i) refl) b1
     (by-part (λ (p : Part). subround 2 (c5 .exchanged2 .result) (p .v2) (p .u2) (p .c2)) (c9 .read-part .result) (partOf ws i) (c4 .round-2 .result) (c4 .round-2 .ensures) (c9 .read-part .ensures)) (c3 .exchanged3 .ensures) in
     let b3 =
-    go-on 3 (c3 .exchanged3 .result) (c2 .round-3 .result) (c1 .exchanged4 .result) (getD ws 6 0) (getD ws 7 0) (tabled (i + 3)) (suc (suc (suc (suc i)))) _ (lit< tt) (carried 3 (i + 3) (suc (suc (suc i))) _ (lit< tt) (omega arith) (omega arith) (add-three i) refl) b2
+    go-on 3 (c3 .exchanged3 .result) (c2 .round-3 .result) (c1 .exchanged4 .result) (getD ws 6 0) (getD ws 7 0) (tabled (i + 3)) (suc (suc (suc (suc i)))) _ (lit< tt) (carried 3 (i + 3) (suc (suc (suc i))) _ (lit< tt) (omega arith) (add-three i) refl) b2
     (by-part (λ (p : Part). subround 3 (c3 .exchanged3 .result) (p .v3) (p .u3) (p .c3)) (c9 .read-part .result) (partOf ws i) (c2 .round-3 .result) (c2 .round-3 .ensures) (c9 .read-part .ensures)) (c1 .exchanged4 .ensures) in
     let b4 =
-    go-on 4 (c1 .exchanged4 .result) (c .round-4 .result) (exchangedOf (c .round-4 .result)) (getD ws 8 0) (getD ws 9 0) (tabled (i + 4)) (suc (suc (suc (suc (suc i))))) _ (lit< tt) (carried 4 (i + 4) (suc (suc (suc (suc i)))) _ (lit< tt) (omega arith) (omega arith) (add-four i) refl) b3
+    go-on 4 (c1 .exchanged4 .result) (c .round-4 .result) (exchangedOf (c .round-4 .result)) (getD ws 8 0) (getD ws 9 0) (tabled (i + 4)) (suc (suc (suc (suc (suc i))))) _ (lit< tt) (carried 4 (i + 4) (suc (suc (suc (suc i)))) _ (lit< tt) (omega arith) (add-four i) refl) b3
     (by-part (λ (p : Part). subround 4 (c1 .exchanged4 .result) (p .v4) (p .u4) (p .c4)) (c9 .read-part .result) (partOf ws i) (c .round-4 .result) (c .round-4 .ensures) (c9 .read-part .ensures)) refl in
     done (a .state) ws i (ok .0) (ok .1) (ok .2) (exchangedOf (c .round-4 .result)) (omega (arith, c .round-4 .ok)) (sym (blockIn-five (exchangedOf (c .round-4 .result))) ∙ b4)
 
