@@ -240,6 +240,7 @@ fn read_part(rkey: &[u32], i: usize) -> Part
     requires { ⌜ i ≤ 35 ⌝ }
     ensures { λ r. ⌜ r ≡ partOf (now (rkey .entry)) i ⌝ }
 {
+    // Each use of a constant array copies it: one copy serves all five.
     let table = GIFT_RC;
     Part {
         v0: rkey[0],
