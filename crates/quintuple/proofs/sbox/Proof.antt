@@ -9,8 +9,6 @@ use Rattle.quintuple.specs.Boxes.{boxed}
 use Rattle.quintuple.proofs.Columns.{through-table}
 use Rattle.quintuple.proofs.sbox.Statement.{statement}
 use Rattle.quintuple.proofs.sbox.Tie as tie
-use Rattle.quintuple.proofs.sbox.Reads as reads
-use Rattle.quintuple.proofs.sbox.Lts as lts
 
 -- the words as the code makes them, a step a line
 abbrev a1 : W
