@@ -1,7 +1,7 @@
 -- A sound bench, as facts: four records, one of them last served, each of them sound; and what keeps it so.
 use mathlib.Core.Path.{_≡_, refl, sym, ap, _∙_}
 use mathlib.Core.Bool.{Bool, true, false, _&&_}
-use mathlib.Core.List.{List, [], _∷_}
+use mathlib.Core.List.{List, [], _∷_, map}
 use mathlib.Core.Logic.{_≢_}
 use Prim.Native.Nat.{ℕ, zero, suc, _+_, _≤_, _<_}
 use native.Mathlib.Nat.{not-suc-le-zero, le-of-suc-le-suc}
@@ -9,12 +9,12 @@ use native.Mathlib.Numerals.{add-one}
 use native.Mathlib.Decide.{ℕ-discrete}
 use native.Mathlib.Omega.{arith}
 use lib.Dec.{eqb, ltb}
-use lib.ListN.{length, drop, set, length-set, drop-of-length-le}
+use lib.ListN.{length, drop, set, length-map, length-set, drop-of-length-le}
 use lib.Seq.{drop-cons, getD-set-same, getD-set-other}
 use borrow.Author.Tests.{eq-eqb, eqb-true, lt-ltb, ltb-true}
-use Rattle.lane_record.specs.declared.Lane.{Lane}
+use Rattle.lane.specs.declared.Lane.{Lane}
 use Rattle.bench.specs.declared.Bench.{Bench}
-use Rattle.lane_record.specs.Record.{soundLane}
+use Rattle.lane.specs.Record.{soundLane}
 use Rattle.bench.specs.Turning.{laneCount, laneAt}
 use Rattle.bench.specs.Calls.{allSound, soundBench, put}
 use Rattle.bits.proofs.Truth.{both, together}
@@ -67,6 +67,10 @@ module _ (b : Bench) where
       together _ (allSound (b .lanes))
       (together _ (ltb (b .last) laneCount) (eq-eqb (length (b .lanes)) laneCount (s .size)) (lt-ltb (b .last) laneCount (s .last-lt)))
       (all-of (b .lanes) (λ i h. s .each i (rw (s .size) at h)))
+
+-- an array of records is known to be long enough as what the machine keeps of them
+pub unmapped : (X Y : Type 0) (f : X → Y) (l : List X) (n : ℕ) → length (map f l) ≡ n → length l ≡ n
+unmapped X Y f l n e = sym (length-map l f) ∙ e
 
 -- ---- a list of records with another one at place i
 

@@ -8,7 +8,7 @@ use lib.ListN.{length}
 use borrow.Author.Tests.{eq-eqb, ne-eqb, eqb-true, leb-true, ltb-true}
 use Rattle.bits.proofs.Computed.{cond-true, cond-false}
 use Rattle.bench.specs.declared.Bench.{Bench}
-use Rattle.lane_record.specs.Record.{idle, finished, opened}
+use Rattle.lane.specs.Record.{idle, finished, opened}
 use Rattle.bench.specs.Turning.{laneCount, laneAt, turnedBy, servedBy}
 use Rattle.bench.specs.Calls.{soundBench, put, idled, openCode, openOf, turnCode, turnOf, takeCode, takeOf, closeCode, closeOf}
 use Rattle.bench.proofs.Passed.{passed}

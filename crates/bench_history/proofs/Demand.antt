@@ -13,13 +13,13 @@ use Rattle.published.specs.Bytes.{toBytes}
 use Rattle.published.proofs.Reading.{Bytes}
 use Rattle.published.proofs.Gift128.{block-lt}
 use Rattle.primitives.specs.Packed.{blockOf}
-use Rattle.lane_record.specs.declared.Lane.{Lane}
+use Rattle.lane.specs.declared.Lane.{Lane}
 use Rattle.bench.specs.declared.Bench.{Bench}
-use Rattle.lane_record.specs.Record.{idle, running, finished, soundLane, soundCount, idleWith, opened, lacks}
+use Rattle.lane.specs.Record.{idle, running, finished, soundLane, soundCount, idleWith, opened, lacks}
 use Rattle.bench.specs.Turning.{laneCount, laneAt}
 use Rattle.bench.specs.Calls.{freshBench, allSound, soundBench, takeCode, takeOf, takenBytes}
 use Rattle.bits.proofs.Truth.{both, together}
-use Rattle.lane_record.proofs.Records.{finished-count, sound-count}
+use Rattle.lane.proofs.Records.{finished-count, sound-count}
 use Rattle.bench.proofs.Soundness.{Sound, is-sound, says-sound}
 use Rattle.bench_history.specs.History.{Call, opening, turning, taking, closing, codeOf, leaves, run, log, times, closes, releases, never, servedTimes}
 use Rattle.bench_history.specs.Promises.{standing, answer, Opening, asks, calls, end, finds, left, made, own, Accepted, Unclosed, Kept, Stands, InTime, Held}

@@ -10,9 +10,9 @@ use lib.Dec.{eqb}
 use lib.ListN.{length, replicate}
 use borrow.Author.Tests.{eq-eqb, ne-eqb, eqb-false}
 use Rattle.bits.proofs.Computed.{cond-true, cond-false}
-use Rattle.lane_record.specs.declared.Lane.{Lane}
+use Rattle.lane.specs.declared.Lane.{Lane}
 use Rattle.bench.specs.declared.Bench.{Bench}
-use Rattle.lane_record.specs.Record.{idleWith, opened, lacks}
+use Rattle.lane.specs.Record.{idleWith, opened, lacks}
 use Rattle.bench.specs.Turning.{laneAt, chosen, anyRuns, turned, turnedBy, servedBy, total}
 use Rattle.bench.specs.Calls.{soundBench, put, idled, turnCode, turnOf, takeCode, takeOf, takenBytes}
 use Rattle.bench.proofs.Soundness.{Sound, is-sound, says-sound}

@@ -4,7 +4,7 @@ use mathlib.Core.List.{List, [], _∷_, _++_, map}
 use Prim.Native.Nat.{ℕ, _*_}
 use lib.ListN.{length, take, replicate}
 use Rattle.bench.specs.declared.Bench.{Bench}
-use Rattle.lane_record.specs.Record.{soundCount, soundLane, idleWith, opened, served, lacks}
+use Rattle.lane.specs.Record.{soundCount, soundLane, idleWith, opened, served, lacks}
 use Rattle.bench.specs.Turning.{laneCount, runs, after, seek, chosen, anyRuns, turned, turnedBy, servedBy, total}
 use Rattle.bench.specs.Calls.{freshBench, allSound, soundBench, put, idled, openCode, openOf, turnCode, turnOf, takeCode, takeOf, closeCode, closeOf}
 use Rattle.bench_history.specs.History.{Call, opening, turning, taking, closing, codeOf, leaves, tells, serves, run, log, times, never, closes, releases}

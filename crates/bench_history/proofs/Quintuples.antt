@@ -24,7 +24,7 @@ use Rattle.quintuple.specs.Quintuple.{quintupled, unquintupled}
 use Rattle.quintuple.proofs.Eight.{forward, backward, none-undone}
 use Rattle.key_schedule.specs.Expand.{expanded}
 use Rattle.key_schedule.proofs.Expanded.{pairs-of-expanded, length-expanded}
-use Rattle.lane_record.specs.Record.{running, finished, opened, advanced, served}
+use Rattle.lane.specs.Record.{running, finished, opened, advanced, served}
 use Rattle.bits.proofs.Truth.{cond-either}
 use Rattle.bench_history.specs.History.{servedTimes}
 use Rattle.bench_history.specs.Promises.{reached, standing, answer}

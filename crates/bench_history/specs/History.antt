@@ -3,9 +3,9 @@ use mathlib.Core.Bool.{Bool, true, false, cond, _&&_, not}
 use mathlib.Core.List.{List, [], _∷_, _++_}
 use Prim.Native.Nat.{ℕ, zero, suc}
 use lib.Dec.{eqb}
-use Rattle.lane_record.specs.declared.Lane.{Lane}
+use Rattle.lane.specs.declared.Lane.{Lane}
 use Rattle.bench.specs.declared.Bench.{Bench}
-use Rattle.lane_record.specs.Record.{served}
+use Rattle.lane.specs.Record.{served}
 use Rattle.bench.specs.Turning.{servedBy}
 use Rattle.bench.specs.Calls.{ifDone, openOf, turnOf, takeOf, takenBytes, closeOf}
 

@@ -10,10 +10,10 @@ use Rattle.published.specs.Bytes.{fromBytes}
 use Rattle.published.specs.Rounds.{rounds, unrounds}
 use Rattle.published.specs.Gift128.{pairsOf, encrypted, decrypted}
 use Rattle.primitives.specs.Packed.{stateOf}
-use Rattle.lane_record.specs.declared.Lane.{Lane}
+use Rattle.lane.specs.declared.Lane.{Lane}
 use Rattle.bench.specs.declared.Bench.{Bench}
 use Rattle.key_schedule.specs.Expand.{expanded}
-use Rattle.lane_record.specs.Record.{running, finished, lacks}
+use Rattle.lane.specs.Record.{running, finished, lacks}
 use Rattle.bench.specs.Turning.{laneCount, laneAt, total}
 use Rattle.bench.specs.Calls.{freshBench, turnOf, takeOf, takenBytes}
 use Rattle.bench_history.specs.History.{Call, opening, turning, codeOf, leaves, lent, holds, tells, serves, run, log, times, lastOf, closes, releases, never, names, isTurning, servedTimes}

@@ -14,8 +14,8 @@ use denote.Shadow.{shadow}
 use denote.Laws.{Is, Tells, Makes}
 use denote.Array.{Array, each, array-tells}
 use denote.Struct.Laws as LL
-use Rattle.lane_record.specs.declared.Lane.{Lane}
-use Rattle.lane_record.proofs.Lane as T
+use Rattle.lane.specs.declared.Lane.{Lane}
+use Rattle.lane.proofs.Lane as T
 use Rattle.bench_lent.specs.declared.Answer.{Answer}
 use Rattle.bench_lent.proofs.Answer as S
 use Rattle.bench_lent.proofs.Answer.Laws as S′

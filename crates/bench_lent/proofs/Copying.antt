@@ -13,7 +13,7 @@ use prog.Wp.{Heap, Out, Env, afterTurn, Wp, Tables}
 use ghost.Atoms.{Atoms}
 use sound.Loop.{unroll}
 use types.Kit.{Given, Item, ⋆}
-use Rattle.lane_record.specs.declared.Lane.{Lane}
+use Rattle.lane.specs.declared.Lane.{Lane}
 use Rattle.bench_lent.proofs.Rows.{count, none, further, copied}
 
 -- `At i zs` is what there is before turn i, where zs stands in the row that is written

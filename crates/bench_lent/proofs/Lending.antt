@@ -26,7 +26,7 @@ use denote.Triple.Clauses.{Lasts, lasts}
 use denote.Triple.Statement.{Contract}
 use denote.Triple.Spec.{tripleOf}
 use denote.Triple.Walked.{says}
-use Rattle.lane_record.specs.declared.Lane.{Lane}
+use Rattle.lane.specs.declared.Lane.{Lane}
 use Rattle.bench.specs.Turning.{laneCount}
 use Rattle.bench_lent.specs.declared.Answer.{Answer}
 use Rattle.bench_lent.proofs.Answer as S

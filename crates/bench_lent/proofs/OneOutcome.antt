@@ -4,7 +4,7 @@ use mathlib.Core.Bool.{Bool, true, false, cond}
 use mathlib.Core.List.{List}
 use Prim.Native.Nat.{ℕ}
 use lib.Dec.{eqb}
-use Rattle.lane_record.specs.declared.Lane.{Lane}
+use Rattle.lane.specs.declared.Lane.{Lane}
 use Rattle.bench.specs.declared.Bench.{Bench}
 use Rattle.bench.specs.Calls.{put, idled, openOf, openCode, turnOf, takeOf, takeCode, takenBytes, closeOf, closeCode}
 use Rattle.bench_lent.specs.declared.Turns.{Turns}

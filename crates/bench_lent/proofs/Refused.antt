@@ -5,7 +5,7 @@ use mathlib.Core.List.{List}
 use Prim.Native.Nat.{ℕ}
 use lib.Dec.{T as Holds, eqb}
 use lib.ListN.{length}
-use Rattle.lane_record.specs.declared.Lane.{Lane}
+use Rattle.lane.specs.declared.Lane.{Lane}
 use Rattle.bench.specs.declared.Bench.{Bench}
 use Rattle.bench.specs.Turning.{laneCount}
 use Rattle.bench.specs.Calls.{soundBench, openOf, openCode, turnOf, turnCode, takeOf, takeCode, takenBytes, closeOf, closeCode}

@@ -25,10 +25,10 @@ use denote.Index.{row}
 use denote.Steps.{only}
 use denote.Struct.Steps.{spelt}
 use denote.Struct.Laws as LL
-use Rattle.lane_record.specs.declared.Lane.{Lane}
-use Rattle.lane_record.specs.Record.{idleWith}
-use Rattle.lane_record.proofs.Lane as T
-use Rattle.lane_record.proofs.Lane.Laws as T′
+use Rattle.lane.specs.declared.Lane.{Lane}
+use Rattle.lane.specs.Record.{idleWith}
+use Rattle.lane.proofs.Lane as T
+use Rattle.lane.proofs.Lane.Laws as T′
 
 -- how many lanes a bench has, as the code's types have it
 abbrev pub count : ℕ

@@ -31,9 +31,9 @@ use denote.Slice.{sliceTy, sliceVal, Room, finally}
 use denote.Steps.{peeks}
 use denote.Triple.Call.{calls-at}
 use denote.Triple.Statement.{Triple}
-use Rattle.lane_record.specs.declared.Lane.{Lane}
+use Rattle.lane.specs.declared.Lane.{Lane}
 use Rattle.bench.specs.Turning.{laneCount}
-use Rattle.lane_record.proofs.Lane.Laws as T′
+use Rattle.lane.proofs.Lane.Laws as T′
 use Rattle.bench_lent.specs.declared.Answer.{Answer}
 use Rattle.bench_lent.proofs.Answer as S
 use Rattle.bench_lent.proofs.Answer.Laws as S′

@@ -1,7 +1,7 @@
 -- Lent records as a bench, and what a call for turns tells of the bench that it leaves.
 use mathlib.Core.List.{List}
 use Prim.Native.Nat.{ℕ}
-use Rattle.lane_record.specs.declared.Lane.{Lane}
+use Rattle.lane.specs.declared.Lane.{Lane}
 use Rattle.bench.specs.declared.Bench.{Bench}
 use Rattle.bench.specs.declared.Turned.{Turned}
 use Rattle.bench_lent.specs.declared.Turns.{Turns}

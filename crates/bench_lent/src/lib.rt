@@ -2,7 +2,7 @@
 // The records are copied out, the by-value call answers on them, and what it gives back is stored in their places.
 use bench::Bench;
 use bench::LANES;
-use lane_record::Lane;
+use lane::Lane;
 ghost use mathlib.Core.Path.{_≡_};
 ghost use lib.ListN.{length};
 ghost use Rattle.bench.specs.Turning.{laneCount};

@@ -1,7 +1,7 @@
 // One record of the file of calls: makes the call on a bench, and compares what came of it with what the record says. oracle/bench_model.py has the layout.
 use bench::Bench;
 use check::same;
-use lane_record::Lane;
+use lane::Lane;
 use packing::packing;
 use primitives::State;
 ghost use Prim.Native.Nat.{_<_};

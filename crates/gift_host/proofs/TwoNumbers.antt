@@ -20,7 +20,7 @@ use denote.Slice.{slice-vals, mut-slice-tells}
 use denote.Signature.{Signature, plain}
 use denote.Triple.Spec.{Spec, Meets, tripleOf}
 use denote.Triple.Statement.{Contract, Triple}
-use Rattle.lane_record.proofs.Lane.Laws as T′
+use Rattle.lane.proofs.Lane.Laws as T′
 use Rattle.bench_lent.proofs.Rows.{R}
 use Rattle.bench_lent.proofs.Through.{lentTy, onTy, relent}
 use Rattle.bench_lent.proofs.Walk.{allocated, freed}

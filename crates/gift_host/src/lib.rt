@@ -1,7 +1,7 @@
 // What a host links, under C names: each function hands its arguments on to the proved call of the same meaning and gives back its answer.
 // The host's side of it is include/gift_host.h.
 use bench_lent::Turns;
-use lane_record::Lane;
+use lane::Lane;
 ghost use mathlib.Core.Path.{_≡_};
 ghost use denote.Ref.{now};
 ghost use Rattle.published.specs.Gift128.{encrypted, decrypted};

@@ -9,7 +9,7 @@ use Rattle.primitives.specs.Packed.{blockOf, stateOf}
 use Rattle.primitives.specs.declared.State.{State}
 
 -- what a slice of another length is packed to
-unfoldable pub noWords : State
+abbrev pub noWords : State
 noWords = record { s0 = 0; s1 = 0; s2 = 0; s3 = 0 }
 
 unfoldable pub packed : List ℕ → State

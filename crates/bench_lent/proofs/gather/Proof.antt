@@ -42,10 +42,10 @@ use denote.Triple.Entry.{onEntry}
 use denote.Triple.Spec.{Meets, tripleOf}
 use denote.Triple.Table.{entered}
 use denote.Triple.Walked.{says, needs, Stays, stay-slice, walkOf, goes-slice, Walks, ends-at, walked, walk-meets}
-use Rattle.lane_record.specs.declared.Lane.{Lane}
+use Rattle.lane.specs.declared.Lane.{Lane}
 use Rattle.bench.specs.Turning.{laneCount}
-use Rattle.lane_record.proofs.Lane as T
-use Rattle.lane_record.proofs.Lane.Laws as T′
+use Rattle.lane.proofs.Lane as T
+use Rattle.lane.proofs.Lane.Laws as T′
 use Rattle.bench_lent.proofs.Walk.{allocated, freed}
 use Rattle.bench_lent.proofs.Copying.{copies}
 use Rattle.bench_lent.proofs.Rows.{R, Records, count, none, val, vals, vals-of, tells, makes, typed, all-typed, apart, whole}

@@ -43,9 +43,9 @@ use denote.Triple.Entry.{onEntry}
 use denote.Triple.Spec.{Meets, tripleOf}
 use denote.Triple.Table.{entered}
 use denote.Triple.Walked.{says, needs, Stays, stay-slice, stay-none, walkOf, goes-slice, goes-none, Walks, ends-at, walked, walk-meets}
-use Rattle.lane_record.specs.declared.Lane.{Lane}
+use Rattle.lane.specs.declared.Lane.{Lane}
 use Rattle.bench.specs.Turning.{laneCount}
-use Rattle.lane_record.proofs.Lane.Laws as T′
+use Rattle.lane.proofs.Lane.Laws as T′
 use Rattle.bench_lent.specs.declared.Answer.{Answer}
 use Rattle.bench_lent.proofs.Answer as S
 use Rattle.bench_lent.proofs.Answer.Laws as S′

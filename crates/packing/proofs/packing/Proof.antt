@@ -32,7 +32,6 @@ returns c =
     ∙ sym (packed-block bs len)
 
 returns-2 : tie.Need-returns-2
-unfolding noWords
 returns-2 c = sym (packed-other (c .before .before .args .input .now) (c .if1 .left))
 
 pub packing-spec : {M : Type 1} → statement M

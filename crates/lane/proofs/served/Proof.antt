@@ -1,14 +1,14 @@
--- `lane_record::served` gives a lane a turn of its own.
+-- `lane::served` gives a lane a turn of its own.
 use mathlib.Core.Path.{sym, ap}
 use mathlib.Core.Bool.{Bool, cond}
 use Prim.Native.Nat.{_+_}
 use native.Mathlib.Omega.{arith}
 use borrow.Author.Needs.{needs}
 use borrow.Author.Tests.{le-ltb, eq-eqb, ne-eqb}
-use Rattle.lane_record.specs.Record.{running, finished, served}
-use Rattle.lane_record.proofs.Records.{served-by}
-use Rattle.lane_record.proofs.served.Statement.{statement}
-use Rattle.lane_record.proofs.served.Tie as tie
+use Rattle.lane.specs.Record.{running, finished, served}
+use Rattle.lane.proofs.Records.{served-by}
+use Rattle.lane.proofs.served.Statement.{statement}
+use Rattle.lane.proofs.served.Tie as tie
 
 returns : tie.Need-returns
 unfolding served
@@ -27,4 +27,6 @@ returns-3 c =
     (sym (ap (λ (t : Bool). cond t finished running) (ne-eqb (l .count + 1) 8 (omega arith)))) (c .before .before .advanced .ensures)
 
 pub served-spec : {M : Type 1} → statement M
-served-spec = tie.close (tie.spec returns (λ c κs. search needs) (λ c. search needs) returns-2 (λ c. search needs) returns-3)
+served-spec =
+    tie.close
+    (tie.spec returns (λ c κs. search needs) (λ c. search needs) (λ c. search needs) returns-2 (λ c. search needs) returns-3)

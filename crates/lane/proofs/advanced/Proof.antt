@@ -1,4 +1,4 @@
--- `lane_record::advanced` does the lane's next quintuple round, on the words from twice its offset on.
+-- `lane::advanced` does the lane's next quintuple round, on the words from twice its offset on.
 use mathlib.Core.Path.{_≡_, sym, ap, _∙_}
 use mathlib.Core.List.{List}
 use Prim.Native.Nat.{ℕ, _-_, _*_}
@@ -8,9 +8,9 @@ use borrow.Author.Needs.{needs}
 use borrow.Author.Tests.{ne-eqb}
 use borrow.Rule.Slice.PartAt.{part-to-end}
 use Rattle.quintuple.specs.Quintuple.{quintupled, unquintupled}
-use Rattle.lane_record.specs.Record.{advanced}
-use Rattle.lane_record.proofs.advanced.Statement.{statement}
-use Rattle.lane_record.proofs.advanced.Tie as tie
+use Rattle.lane.specs.Record.{advanced}
+use Rattle.lane.proofs.advanced.Statement.{statement}
+use Rattle.lane.proofs.advanced.Tie as tie
 
 -- the part of eighty words from place a to the end
 to-end : (ws : List ℕ) → length ws ≡ 80 → (a : ℕ) → take (80 - a) (drop a ws) ≡ drop a ws

@@ -1,9 +1,9 @@
--- `lane_record::sound_lane` tells whether a record is sound.
+-- `lane::sound_lane` tells whether a record is sound.
 use borrow.Author.Tests.{le-leb, lt-leb}
-use Rattle.lane_record.specs.Record.{soundLane, soundCount}
-use Rattle.lane_record.proofs.Records.{no-phase}
-use Rattle.lane_record.proofs.sound_lane.Statement.{statement}
-use Rattle.lane_record.proofs.sound_lane.Tie as tie
+use Rattle.lane.specs.Record.{soundLane, soundCount}
+use Rattle.lane.proofs.Records.{below-leb, no-phase}
+use Rattle.lane.proofs.sound_lane.Statement.{statement}
+use Rattle.lane.proofs.sound_lane.Tie as tie
 
 returns : tie.Need-returns
 unfolding soundLane
@@ -15,7 +15,7 @@ returns-2 c = rw (le-leb _ 1 (c .before .if1 .left), c .if2 .taken)
 
 returns-3 : tie.Need-returns-3
 unfolding soundLane soundCount
-returns-3 c = rw (le-leb _ 1 (c .before .before .if1 .left), c .if3 .taken)
+returns-3 c = rw (le-leb _ 1 (c .before .before .if1 .left), c .if3 .taken) (below-leb (c .before .before .before .before .args .l .count) 7)
 
 returns-4 : tie.Need-returns-4
 unfolding soundLane soundCount

@@ -1,15 +1,14 @@
--- A lane's record: what makes it sound, and what an opening, a turn of its own and going idle make of it.
+-- A lane's record: what makes it sound, and what an opening, a turn of its own, yielding and going idle make of it.
 use mathlib.Core.Bool.{Bool, false, cond, _&&_}
 use mathlib.Core.List.{List}
 use Prim.Native.Nat.{ℕ, zero, suc, _+_, _-_, _*_}
 use lib.Dec.{eqb, leb, ltb}
-use lib.ListN.{drop}
-use Rattle.published.specs.Bytes.{fromBytes}
+use lib.ListN.{drop, replicate}
 use Rattle.primitives.specs.declared.State.{State}
-use Rattle.primitives.specs.Packed.{stateOf}
-use Rattle.key_schedule.specs.Expand.{expanded}
+use Rattle.packing.specs.Packing.{noWords, packed, unpacked}
 use Rattle.quintuple.specs.Quintuple.{quintupled, unquintupled}
-use Rattle.lane_record.specs.declared.Lane.{Lane}
+use Rattle.gift128.specs.Calls.{newWords}
+use Rattle.lane.specs.declared.Lane.{Lane}
 
 abbrev pub idle : ℕ
 idle = 0
@@ -30,17 +29,10 @@ soundCount (suc (suc (suc p))) c = false
 unfoldable pub soundLane : Lane → Bool
 soundLane l = leb (l .direction) 1 && soundCount (l .phase) (l .count)
 
-abbrev pub noState : State
-noState = record { s0 = 0; s1 = 0; s2 = 0; s3 = 0 }
-
--- idle, with the round words ws
-unfoldable pub idleWith : List ℕ → Lane
-idleWith ws = record { phase = idle; direction = 0; count = 0; words = ws; state = noState }
-
 -- Opening: the key expanded, the block packed.
 unfoldable pub opened : ℕ → List ℕ → List ℕ → Lane
 opened direction key block =
-    record { phase = running; direction = direction; count = 0; words = expanded key; state = stateOf (fromBytes block) }
+    record { phase = running; direction = direction; count = 0; words = newWords key; state = packed block }
 
 -- One quintuple round more: forward at offset 5·count, or back at offset 35 − 5·count, over the words that start at twice the offset.
 unfoldable pub advanced : Lane → State
@@ -65,3 +57,17 @@ served l =
 -- the turns that a lane still lacks: 8 less its count if it runs
 unfoldable pub lacks : Lane → ℕ
 lacks l = cond (eqb (l .phase) running) (8 - l .count) 0
+
+-- Yielding: what a lent buffer holds afterwards, the bytes of the lane's block.
+unfoldable pub yielded : Lane → List ℕ → List ℕ
+yielded l out = unpacked (l .state) out
+
+-- Idle, with the round words ws; idle as after a take, when they stay until the next opening; and a fresh lane, all zero.
+unfoldable pub idleWith : List ℕ → Lane
+idleWith ws = record { phase = idle; direction = 0; count = 0; words = ws; state = noWords }
+
+abbrev pub idled : Lane → Lane
+idled l = idleWith (l .words)
+
+abbrev pub freshLane : Lane
+freshLane = idleWith (replicate 80 0)

@@ -2,13 +2,14 @@
 use mathlib.Core.Path.{_≡_, refl, sym, ap, _∙_}
 use mathlib.Core.Bool.{true, false, cond, false≢true}
 use Prim.Native.Nat.{ℕ, zero, suc, _+_, _-_, _≤_, _<_}
+use native.Mathlib.Decide.{decLe}
 use native.Mathlib.Omega.{arith}
 use lib.Dec.{eqb, leb, ltb}
-use borrow.Author.Tests.{lt-ltb, le-leb, eqb-true, eqb-false, leb-true}
+use borrow.Author.Tests.{lt-ltb, le-ltb, le-leb, lt-leb, eqb-true, eqb-false, leb-true}
 use Rattle.bits.proofs.Computed.{cond-true}
 use Rattle.primitives.specs.declared.State.{State}
-use Rattle.lane_record.specs.declared.Lane.{Lane}
-use Rattle.lane_record.specs.Record.{running, finished, idle, soundCount, soundLane, advanced, served, lacks}
+use Rattle.lane.specs.declared.Lane.{Lane}
+use Rattle.lane.specs.Record.{running, finished, idle, soundCount, soundLane, advanced, served, lacks}
 use Rattle.bits.proofs.Truth.{both, together, cond-either}
 
 -- a lane with a running record that is sound has turns left
@@ -33,6 +34,14 @@ sound-count l s = go (l .phase) (both (leb (l .direction) 1) (soundCount (l .pha
     go (suc zero) e = omega (arith, leb-true (l .count) 7 e)
     go (suc (suc zero)) e = omega (arith, eqb-true (l .count) 8 e)
     go (suc (suc (suc p))) e = absurd (false≢true e)
+
+-- below 8 is at most 7, as tests
+pub below-leb : (c m : ℕ) → ltb c (m + 1) ≡ leb c m
+below-leb c m =
+    elim (decLe c m) [
+      | yes h ↦ lt-ltb c (m + 1) (omega arith) ∙ sym (le-leb c m h)
+      | no h ↦ le-ltb c (m + 1) (omega arith) ∙ sym (lt-leb c m (omega arith))
+    ]
 
 -- a fourth phase is none
 pub no-phase : (p c : ℕ) → (p ≡ idle → ⊥) → (p ≡ running → ⊥) → (p ≡ finished → ⊥) → soundCount p c ≡ false
