@@ -12,6 +12,7 @@ use lib.ListN.{length, take, drop}
 use lib.Seq.{take-all}
 use borrow.Author.Tests.{le-leb, lt-leb, lt-ltb, eq-eqb, ne-eqb}
 use Rattle.bits.proofs.Computed.{cond-true}
+use Rattle.bits.proofs.Truth.{cond-either}
 use Rattle.published.specs.Bytes.{fromBytes, toBytes}
 use Rattle.published.specs.Rounds.{Pair, rounds, unrounds}
 use Rattle.published.specs.Gift128.{pairOf, pairsOf, encrypted, decrypted}
@@ -25,7 +26,7 @@ use Rattle.quintuple.proofs.Eight.{forward, backward, none-undone}
 use Rattle.key_schedule.specs.Expand.{expanded}
 use Rattle.key_schedule.proofs.Expanded.{pairs-of-expanded, length-expanded}
 use Rattle.lane.specs.Record.{running, finished, opened, advanced, served}
-use Rattle.bits.proofs.Truth.{cond-either}
+use Rattle.lane.proofs.Records.{opened-on}
 use Rattle.bench_history.specs.History.{servedTimes}
 use Rattle.bench_history.specs.Promises.{reached, standing, answer}
 
@@ -77,18 +78,20 @@ module _ (direction : ℕ) (key block : List ℕ) (x-lt : fromBytes block < 2 ^ 
       cond-true (ltb t 8) _ _ (lt-ltb t 8 h)
       ∙ λ i. record { phase = cond (last-turn t h i) finished running; direction = direction; count = add-one t i; words = expanded key; state = advance t h i }
 
-  start : opened direction key block ≡ standing direction key block 0
-  unfolding opened standing reached rounds
-  start = λ i. record { phase = running; direction = direction; count = 0; words = expanded key; state = same (eqb direction 0) i }
+  start : length key ≡ 16 → length block ≡ 16 → opened direction key block ≡ standing direction key block 0
+  unfolding standing reached rounds
+  start k b =
+      opened-on direction key block k b
+      ∙ λ i. record { phase = running; direction = direction; count = 0; words = expanded key; state = same (eqb direction 0) i }
     where
       same : (f : Bool) → stateOf (fromBytes block) ≡ stateOf (cond f (fromBytes block) (unrounds 128 1 (drop 40 (pairsOf key)) 40 (fromBytes block)))
       same true = refl
       same false = rw (pairs-of-expanded key) at (none-undone (expanded key) (length-expanded key) (fromBytes block) x-lt)
 
-  pub reach : (t : ℕ) → t ≤ 8 → servedTimes t (opened direction key block) ≡ standing direction key block t
+  pub reach : length key ≡ 16 → length block ≡ 16 → (t : ℕ) → t ≤ 8 → servedTimes t (opened direction key block) ≡ standing direction key block t
   unfolding servedTimes
-  reach zero h = start
-  reach (suc t) h = ap served (reach t (omega arith)) ∙ serve t h
+  reach k b zero h = start k b
+  reach k b (suc t) h = ap served (reach k b t (omega arith)) ∙ serve t h
 
   -- the state is a block's, and after the eighth turn it is the answer's
   pub reached-lt : (t : ℕ) → reached direction key block t < 2 ^ 128

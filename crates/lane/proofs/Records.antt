@@ -1,15 +1,23 @@
--- What a turn of its own does to a sound running record: it stays sound and busy, counts one more and lacks one less.
+-- What the crates above use of a record: its counts by its phase, what a turn of its own does to it, and what it holds just opened and yields in the end.
 use mathlib.Core.Path.{_≡_, refl, sym, ap, _∙_}
 use mathlib.Core.Bool.{true, false, cond, false≢true}
+use mathlib.Core.List.{List}
 use Prim.Native.Nat.{ℕ, zero, suc, _+_, _-_, _≤_, _<_}
 use native.Mathlib.Decide.{decLe}
 use native.Mathlib.Omega.{arith}
 use lib.Dec.{eqb, leb, ltb}
-use borrow.Author.Tests.{lt-ltb, le-ltb, le-leb, lt-leb, eqb-true, eqb-false, leb-true}
+use lib.ListN.{length, replicate}
+use borrow.Author.Tests.{lt-ltb, le-ltb, le-leb, lt-leb, eq-eqb, eqb-true, eqb-false, leb-true}
 use Rattle.bits.proofs.Computed.{cond-true}
+use Rattle.published.specs.Bytes.{fromBytes, toBytes}
 use Rattle.primitives.specs.declared.State.{State}
+use Rattle.primitives.specs.Packed.{blockOf, stateOf}
+use Rattle.packing.specs.Packing.{unpacked}
+use Rattle.packing.proofs.Inverse.{packed-block}
+use Rattle.key_schedule.specs.Expand.{expanded}
+use Rattle.gift128.specs.Calls.{newWords}
 use Rattle.lane.specs.declared.Lane.{Lane}
-use Rattle.lane.specs.Record.{running, finished, idle, soundCount, soundLane, advanced, served, lacks}
+use Rattle.lane.specs.Record.{running, finished, idle, soundCount, soundLane, opened, advanced, served, lacks, yielded}
 use Rattle.bits.proofs.Truth.{both, together, cond-either}
 
 -- a lane with a running record that is sound has turns left
@@ -99,3 +107,32 @@ module _ (l : Lane) (sound : soundLane l ≡ true) (runs : l .phase ≡ running)
       (cond-either (λ (p : ℕ). suc (cond (eqb p running) (8 - (c + 1)) 0) ≡ 8 - c) (eqb (c + 1) 8) finished running
       (λ e. omega (arith, eqb-true (c + 1) 8 e))
       (λ e. omega arith))
+
+-- a sound lane with eight turns is finished
+pub eight-finished : (l : Lane) → soundLane l ≡ true → l .count ≡ 8 → l .phase ≡ finished
+unfolding soundLane soundCount
+eight-finished l s e = go (l .phase) (both (leb (l .direction) 1) (soundCount (l .phase) (l .count)) s .1)
+  where
+    go : (p : ℕ) → soundCount p (l .count) ≡ true → p ≡ finished
+    go zero h = absurd (eqb-false 8 0 refl (sym e ∙ eqb-true (l .count) 0 h))
+    go (suc zero) h = absurd (omega (arith, e, leb-true (l .count) 7 h))
+    go (suc (suc zero)) h = refl
+    go (suc (suc (suc p))) h = absurd (false≢true h)
+
+-- by a key and a block of 16 bytes, a lane is opened on the key's words and the block's
+pub opened-on : (direction : ℕ) (key block : List ℕ) → length key ≡ 16 → length block ≡ 16
+    → opened direction key block ≡ record { phase = running; direction = direction; count = 0; words = expanded key; state = stateOf (fromBytes block) }
+unfolding opened newWords
+opened-on direction key block k b =
+    λ i. record {
+      phase = running;
+      direction = direction;
+      count = 0;
+      words = cond-true (eqb (length key) 16) (expanded key) (replicate 80 0) (eq-eqb (length key) 16 k) i;
+      state = packed-block block b i;
+    }
+
+-- what a lane yields into 16 bytes
+pub yielded-bytes : (l : Lane) (out : List ℕ) → length out ≡ 16 → yielded l out ≡ toBytes 16 (blockOf (l .state))
+unfolding yielded unpacked
+yielded-bytes l out e = cond-true (eqb (length out) 16) _ out (eq-eqb (length out) 16 e)
