@@ -18,8 +18,8 @@ module _ {A : Type 0} {number r : ℕ} {new old : A} (told : r ≡ number) where
   pub refuses : r ≢ 0 → Gives number new old r old
   refuses ne = record { is = told; leaves = sym (if-refused number new old (λ e. ne (told ∙ e))) }
 
-  pub done : r ≡ 0 → {e : A} → e ≡ new → Gives number new old 0 e
-  done z left = record { is = sym z ∙ told; leaves = left ∙ sym (if-done number new old (sym told ∙ z)) }
+  pub done : r ≡ 0 → {e : A} → e ≡ new → Gives number new old r e
+  done z left = record { is = told; leaves = left ∙ sym (if-done number new old (sym told ∙ z)) }
 
 -- a promise that one outcome meets, and no second
 abbrev pub OneOutcome : {A : Type 0} → (ℕ → A → Type 0) → Type 0

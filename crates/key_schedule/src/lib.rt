@@ -1,4 +1,7 @@
 // key_schedule.rs: the eighty round words of a key, V and U of each round, each kept in its round's arrangement.
+use answers::BAD_KEY_LENGTH;
+use answers::BAD_WORD_COUNT;
+use answers::DONE;
 use primitives::ror;
 use primitives::swapmovesingle;
 use primitives::u32big;
@@ -9,8 +12,7 @@ ghost use Rattle.primitives.specs.Words.{permuted};
 ghost use Rattle.primitives.specs.Arranged.{arranged};
 ghost use Rattle.key_schedule.specs.Update.{updated, later, tripled};
 ghost use Rattle.key_schedule.specs.Tens.{firstWords, fiveRounds, fiveLater, tenLater, wordsOf, tenOf, grown};
-ghost use Rattle.primitives.specs.Answer.{Gives};
-ghost use Rattle.key_schedule.specs.Expand.{expandCode, expanded};
+ghost use Rattle.key_schedule.specs.Expand.{expandCode, expanded, Expands};
 
 fn rearrange_rkey_0(x: u32) -> u32
     ensures { λ r. ⌜ r ≡ arranged 1 x ⌝ }
@@ -289,15 +291,26 @@ fn expand(key: &[u8], rkey: &mut [u32])
     extend(rkey);
 }
 
-pub fn precompute_rkeys(key: &[u8], rkey: &mut [u32]) -> u32
-    ensures { λ r. ⌜ Gives (expandCode (now (key .entry)) (now (rkey .entry))) (expanded (now (key .entry))) (now (rkey .entry)) r (now (rkey .exit)) ⌝ }
+// The number that expansion gives: 1, 4.
+fn expand_code(key: usize, words: usize) -> u32
+    ensures { λ r. ⌜ r ≡ expandCode key words ⌝ }
 {
-    if key.len() != 16 {
-        return 1;
+    if key != 16 {
+        return BAD_KEY_LENGTH;
     }
-    if rkey.len() != 80 {
-        return 4;
+    if words != 80 {
+        return BAD_WORD_COUNT;
+    }
+    DONE
+}
+
+pub fn precompute_rkeys(key: &[u8], rkey: &mut [u32]) -> u32
+    ensures { λ r. ⌜ Expands (now (key .entry)) (now (rkey .entry)) r (now (rkey .exit)) ⌝ }
+{
+    let code = expand_code(key.len(), rkey.len());
+    if code != DONE {
+        return code;
     }
     expand(key, rkey);
-    0
+    code
 }

@@ -8,6 +8,7 @@ use native.Mathlib.Omega.{arith}
 use lib.Dec.{eqb, leb, ltb}
 use lib.ListN.{length, replicate}
 use borrow.Author.Tests.{lt-ltb, le-ltb, le-leb, lt-leb, eq-eqb, eqb-true, eqb-false, leb-true}
+use Rattle.answers.specs.Order.{ifDone}
 use Rattle.bits.proofs.Computed.{cond-true}
 use Rattle.published.specs.Bytes.{fromBytes, toBytes}
 use Rattle.primitives.specs.declared.State.{State}
@@ -15,7 +16,7 @@ use Rattle.primitives.specs.Packed.{blockOf, stateOf}
 use Rattle.packing.specs.Packing.{unpacked}
 use Rattle.packing.proofs.Inverse.{packed-block}
 use Rattle.key_schedule.specs.Expand.{expanded}
-use Rattle.gift128.specs.Calls.{newWords}
+use Rattle.gift128.specs.Calls.{newCode}
 use Rattle.lane.specs.declared.Lane.{Lane}
 use Rattle.lane.specs.Record.{running, finished, idle, soundCount, soundLane, opened, advanced, served, lacks, yielded}
 use Rattle.bits.proofs.Truth.{both, together, cond-either}
@@ -122,13 +123,13 @@ eight-finished l s e = go (l .phase) (both (leb (l .direction) 1) (soundCount (l
 -- by a key and a block of 16 bytes, a lane is opened on the key's words and the block's
 pub opened-on : (direction : ℕ) (key block : List ℕ) → length key ≡ 16 → length block ≡ 16
     → opened direction key block ≡ record { phase = running; direction = direction; count = 0; words = expanded key; state = stateOf (fromBytes block) }
-unfolding opened newWords
+unfolding opened newCode
 opened-on direction key block k b =
     λ i. record {
       phase = running;
       direction = direction;
       count = 0;
-      words = cond-true (eqb (length key) 16) (expanded key) (replicate 80 0) (eq-eqb (length key) 16 k) i;
+      words = ap (λ (n : ℕ). ifDone (newCode n) (expanded key) (replicate 80 0)) k i;
       state = packed-block block b i;
     }
 

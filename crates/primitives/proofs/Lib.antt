@@ -4,4 +4,3 @@ pub mod Swaps
 pub mod Blocks
 pub mod Arrangements
 pub mod Pairs
-pub mod Outcome

@@ -2,4 +2,3 @@
 pub mod Words
 pub mod Packed
 pub mod Arranged
-pub mod Answer

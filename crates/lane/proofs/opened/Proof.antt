@@ -6,7 +6,7 @@ use Rattle.lane.proofs.opened.Tie as tie
 
 returns : tie.Need-returns
 unfolding opened
-returns c = rw (c .before .before .before .new .ensures .1, c .packing .ensures)
+returns c = rw (c .before .before .before .new .ensures .leaves, c .packing .ensures)
 
 pub opened-spec : {M : Type 1} → statement M
 opened-spec = tie.close (tie.spec (λ c κs. search needs) (λ c κs. search needs) returns)
