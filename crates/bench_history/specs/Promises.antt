@@ -7,8 +7,7 @@ use Prim.Native.Nat.{ℕ, _+_, _-_, _*_, _≤_, _<_, min}
 use lib.Dec.{eqb, leb}
 use lib.ListN.{length, take, drop, replicate}
 use Rattle.published.specs.Bytes.{fromBytes}
-use Rattle.published.specs.Rounds.{rounds, unrounds}
-use Rattle.published.specs.Gift128.{pairsOf, encrypted, decrypted}
+use Rattle.published.specs.Gift128.{pairsOf, rounds128, unrounds128, encrypted, decrypted}
 use Rattle.primitives.specs.Packed.{stateOf}
 use Rattle.lane_record.specs.declared.Lane.{Lane}
 use Rattle.bench.specs.declared.Bench.{Bench}
@@ -24,8 +23,8 @@ use Rattle.bench_history.specs.History.{Call, opening, turning, codeOf, 
 unfoldable pub reached : ℕ → List ℕ → List ℕ → ℕ → ℕ
 reached direction key block t =
     cond (eqb direction 0)
-    (rounds 128 1 (take (5 * t) (pairsOf key)) 0 (fromBytes block))
-    (unrounds 128 1 (drop (40 - 5 * t) (pairsOf key)) (40 - 5 * t) (fromBytes block))
+    (rounds128 (take (5 * t) (pairsOf key)) 0 (fromBytes block))
+    (unrounds128 (drop (40 - 5 * t) (pairsOf key)) (40 - 5 * t) (fromBytes block))
 
 -- the whole record then: running until the eighth turn, and finished with it
 unfoldable pub standing : ℕ → List ℕ → List ℕ → ℕ → Lane

@@ -5,8 +5,8 @@ use mathlib.Core.List.{List}
 use Prim.Native.Nat.{ℕ}
 use denote.Ref.{now}
 use lib.ListN.{take}
-use Rattle.published.specs.Rounds.{Pair, rounds}
-use Rattle.published.specs.Gift128.{pairsOf}
+use Rattle.published.specs.Rounds.{Pair}
+use Rattle.published.specs.Gift128.{pairsOf, rounds128}
 use Rattle.published.proofs.Steps.{width128}
 use Rattle.published.proofs.Undone.{rounds-lt}
 use Rattle.quintuple.specs.Quintuple.{firstRound}
@@ -36,7 +36,7 @@ returns-3 c =
     let block : List ℕ = now (a .block) in
     let ps : List Pair = take 1 (pairsOf key) in
     done _ _ _ _ (key-0 key block (d .before .if1 .left) (d .if2 .left))
-    (through (rounds 128 1 ps 0) (c .before .before .before .before .before .before .packing .result) (c .before .before .before .before .first-round .result) block block _ (rounds-lt 128 1 width128 ps 0) (d .if2 .left)
+    (through (rounds128 ps 0) (c .before .before .before .before .before .before .packing .result) (c .before .before .before .before .first-round .result) block block _ (rounds-lt 128 1 width128 ps 0) (d .if2 .left)
     (λ i. d .before .before .slice-known .given i .fits) (d .if2 .left) (c .before .before .before .before .before .before .packing .ensures)
     (c .before .before .before .before .first-round .ensures ∙ ap (firstRound (c .before .before .before .before .before .before .packing .result)) (c .before .before .before .before .before .before .before .before .before .precompute-rkeys .ensures .leaves ∙ filled key _ (d .before .if1 .left) refl) ∙ first-of-key key (c .before .before .before .before .before .before .packing .result))
     (c .before .before .unpacking .ensures))
