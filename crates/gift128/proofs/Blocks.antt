@@ -9,8 +9,8 @@ use lib.ListN.{length, take, replicate}
 use Rattle.answers.specs.Order.{ifDone}
 use Rattle.bits.proofs.Computed.{cond-true}
 use Rattle.published.specs.Bytes.{fromBytes, toBytes}
-use Rattle.published.specs.Rounds.{Pair, rounds, unrounds}
-use Rattle.published.specs.Gift128.{pairsOf, encrypted, decrypted}
+use Rattle.published.specs.Rounds.{Pair}
+use Rattle.published.specs.Gift128.{pairsOf, rounds128, unrounds128, encrypted, decrypted}
 use Rattle.published.proofs.Reading.{Bytes}
 use Rattle.published.proofs.Steps.{width128}
 use Rattle.published.proofs.Undone.{rounds-lt, unrounds-lt}
@@ -49,8 +49,8 @@ crossing true ws s t input output e len h len′ packs goes unpacks =
 -- by the words of a key it is the published cipher
 pub crossed-key : (back : Bool) (key block : List ℕ) → crossedBy back (expanded key) block ≡ crossed back key block
 unfolding encryptedBy encrypted decryptedBy decrypted
-crossed-key false key block = ap (λ (ps : List Pair). toBytes 16 (rounds 128 1 ps 0 (fromBytes block))) (pairs-of-expanded key)
-crossed-key true key block = ap (λ (ps : List Pair). toBytes 16 (unrounds 128 1 ps 0 (fromBytes block))) (pairs-of-expanded key)
+crossed-key false key block = ap (λ (ps : List Pair). toBytes 16 (rounds128 ps 0 (fromBytes block))) (pairs-of-expanded key)
+crossed-key true key block = ap (λ (ps : List Pair). toBytes 16 (unrounds128 ps 0 (fromBytes block))) (pairs-of-expanded key)
 
 -- eighty zeros lent to expansion by a good key become the key's words
 pub filled : (key : List ℕ) → length key ≡ 16 → ifDone (expandCode (length key) 80) (expanded key) (replicate 80 0) ≡ expanded key
@@ -58,8 +58,8 @@ unfolding expandCode
 filled key k = rw k
 
 -- round 1 by the words of a key
-pub first-of-key : (key : List ℕ) (s : State) → firstRound s (expanded key) ≡ stateOf (rounds 128 1 (take 1 (pairsOf key)) 0 (blockOf s))
+pub first-of-key : (key : List ℕ) (s : State) → firstRound s (expanded key) ≡ stateOf (rounds128 (take 1 (pairsOf key)) 0 (blockOf s))
 unfolding firstRound
 first-of-key key s =
     cond-true _ _ _ (le-leb 2 (length (expanded key)) (rw length-expanded (lit≤ tt)))
-    ∙ ap (λ (ps : List Pair). stateOf (rounds 128 1 ps 0 (blockOf s))) (first-pair (expanded key) ∙ ap (take 1) (pairs-of-expanded key))
+    ∙ ap (λ (ps : List Pair). stateOf (rounds128 ps 0 (blockOf s))) (first-pair (expanded key) ∙ ap (take 1) (pairs-of-expanded key))

@@ -17,7 +17,7 @@ ghost use denote.Ref.{now};
 ghost use Prim.Native.Nat.{_%_};
 ghost use lib.ListN.{length};
 ghost use Rattle.answers.specs.Outcome.{Gives};
-ghost use Rattle.published.specs.Rounds.{rounds, unrounds};
+ghost use Rattle.published.specs.Gift128.{rounds128, unrounds128};
 ghost use Rattle.primitives.specs.Packed.{blockOf, stateOf};
 ghost use Rattle.primitives.specs.Arranged.{pairsFrom};
 ghost use Rattle.gift128.specs.Calls.{keyCode, wordsCode, manyCode, allBlocks};
@@ -74,7 +74,7 @@ impl Gift128 {
 // The forty rounds, five at a time: each quintuple reads the ten words that start at twice its offset.
 fn encrypt_state(s: State, rkey: &[u32]) -> State
     requires { ⌜ length (now rkey) ≡ 80 ⌝ }
-    ensures { λ r. ⌜ r ≡ stateOf (rounds 128 1 (pairsFrom 0 (now (rkey .entry))) 0 (blockOf s)) ⌝ }
+    ensures { λ r. ⌜ r ≡ stateOf (rounds128 (pairsFrom 0 (now (rkey .entry))) 0 (blockOf s)) ⌝ }
 {
     let mut state = s;
     let mut i: usize = 0;
@@ -89,7 +89,7 @@ fn encrypt_state(s: State, rkey: &[u32]) -> State
 // And undone, from offset 35 down to 0, both included.
 fn decrypt_state(s: State, rkey: &[u32]) -> State
     requires { ⌜ length (now rkey) ≡ 80 ⌝ }
-    ensures { λ r. ⌜ r ≡ stateOf (unrounds 128 1 (pairsFrom 0 (now (rkey .entry))) 0 (blockOf s)) ⌝ }
+    ensures { λ r. ⌜ r ≡ stateOf (unrounds128 (pairsFrom 0 (now (rkey .entry))) 0 (blockOf s)) ⌝ }
 {
     let mut state = s;
     let mut i: usize = 40;

@@ -7,12 +7,9 @@ use lib.Dec.{eqb, ltb}
 use lib.ListN.{getD}
 use Rattle.bits.specs.Digit.{digit, number, one, bit, ofBits, _⊕_}
 
--- 1. Each nibble x becomes entry x of the table.
-abbrev pub table : List ℕ
-table = 0x1 ∷ 0xa ∷ 0x4 ∷ 0xc ∷ 0x6 ∷ 0xf ∷ 0x3 ∷ 0x9 ∷ 0x2 ∷ 0xd ∷ 0xb ∷ 0x7 ∷ 0x5 ∷ 0x0 ∷ 0x8 ∷ 0xe ∷ []
-
+-- 1. Each nibble x becomes entry x of 1 a 4 c 6 f 3 9 2 d b 7 5 0 8 e.
 unfoldable pub entry : ℕ → ℕ
-entry x = getD table x 0
+entry x = getD (0x1 ∷ 0xa ∷ 0x4 ∷ 0xc ∷ 0x6 ∷ 0xf ∷ 0x3 ∷ 0x9 ∷ 0x2 ∷ 0xd ∷ 0xb ∷ 0x7 ∷ 0x5 ∷ 0x0 ∷ 0x8 ∷ 0xe ∷ []) x 0
 
 unfoldable pub subCells : ℕ → ℕ → ℕ
 subCells n s = number 16 (n / 4) (λ i. entry (digit 16 s i))
@@ -64,11 +61,8 @@ rounds n j [] r s = s
 rounds n j (p ∷ ps) r s = rounds n j ps (suc r) (round n j p (constant (suc r)) s)
 
 -- Undoing: each step's inverse, the last first.
-abbrev pub inverse : List ℕ
-inverse = 0xd ∷ 0x0 ∷ 0x8 ∷ 0x6 ∷ 0x2 ∷ 0xc ∷ 0x4 ∷ 0xb ∷ 0xe ∷ 0x7 ∷ 0x1 ∷ 0xa ∷ 0x3 ∷ 0x9 ∷ 0xf ∷ 0x5 ∷ []
-
 unfoldable pub unentry : ℕ → ℕ
-unentry x = getD inverse x 0
+unentry x = getD (0xd ∷ 0x0 ∷ 0x8 ∷ 0x6 ∷ 0x2 ∷ 0xc ∷ 0x4 ∷ 0xb ∷ 0xe ∷ 0x7 ∷ 0x1 ∷ 0xa ∷ 0x3 ∷ 0x9 ∷ 0xf ∷ 0x5 ∷ []) x 0
 
 unfoldable pub unSubCells : ℕ → ℕ → ℕ
 unSubCells n s = number 16 (n / 4) (λ i. unentry (digit 16 s i))

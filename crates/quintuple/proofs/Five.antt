@@ -12,7 +12,8 @@ use Rattle.bits.specs.Digit.{bit}
 use Rattle.bits.proofs.Bits.{ofBits-cong}
 use Rattle.bits.proofs.Truth.{both}
 use Rattle.bits.proofs.Computed.{cond-true, cond-false}
-use Rattle.published.specs.Rounds.{constant, round, rounds, unround, unrounds}
+use Rattle.published.specs.Rounds.{constant, round, unround}
+use Rattle.published.specs.Gift128.{rounds128, unrounds128}
 use Rattle.primitives.specs.Packed.{wordOf, blockOf, stateOf}
 use Rattle.primitives.specs.Arranged.{nibbleAt, stands, arranged, constantWord, pairsFrom}
 use Rattle.primitives.specs.declared.State.{State}
@@ -114,21 +115,21 @@ module _ (s : State) (ws : List ℕ) (i : ℕ) where
   unstays e = sym (cond-false _ _ _ e)
 
   module _ (few : 10 ≤ length ws) (near : i ≤ 35) (start : i % 5 ≡ 0) (r : State) (hr : Words r) where
-    pub done : blockOf r ≡ rounds 128 1 (pairsFrom 0 (ten ws)) i (blockOf s) → r ≡ quintupled s ws i
+    pub done : blockOf r ≡ rounds128 (pairsFrom 0 (ten ws)) i (blockOf s) → r ≡ quintupled s ws i
     unfolding quintupled
     done e =
         sym
         (cond-true _ _ _ (all-good ws i few near start)
-        ∙ ap (λ (l : List ℕ). stateOf (rounds 128 1 (pairsFrom 0 l) i (blockOf s))) (first-ten ws few)
+        ∙ ap (λ (l : List ℕ). stateOf (rounds128 (pairsFrom 0 l) i (blockOf s))) (first-ten ws few)
         ∙ ap stateOf (sym e)
         ∙ stateOf-blockOf r hr)
 
-    pub undone : blockOf r ≡ unrounds 128 1 (pairsFrom 0 (ten ws)) i (blockOf s) → r ≡ unquintupled s ws i
+    pub undone : blockOf r ≡ unrounds128 (pairsFrom 0 (ten ws)) i (blockOf s) → r ≡ unquintupled s ws i
     unfolding unquintupled
     undone e =
         sym
         (cond-true _ _ _ (all-good ws i few near start)
-        ∙ ap (λ (l : List ℕ). stateOf (unrounds 128 1 (pairsFrom 0 l) i (blockOf s))) (first-ten ws few)
+        ∙ ap (λ (l : List ℕ). stateOf (unrounds128 (pairsFrom 0 l) i (blockOf s))) (first-ten ws few)
         ∙ ap stateOf (sym e)
         ∙ stateOf-blockOf r hr)
 

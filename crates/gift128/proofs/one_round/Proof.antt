@@ -6,8 +6,8 @@ use lib.ListN.{length, take}
 use borrow.Author.Needs.{needs}
 use denote.Ref.{now}
 use Rattle.answers.proofs.Outcome.{refuses, done}
-use Rattle.published.specs.Rounds.{Pair, rounds}
-use Rattle.published.specs.Gift128.{pairsOf}
+use Rattle.published.specs.Rounds.{Pair}
+use Rattle.published.specs.Gift128.{pairsOf, rounds128}
 use Rattle.published.proofs.Steps.{width128}
 use Rattle.published.proofs.Undone.{rounds-lt}
 use Rattle.quintuple.specs.Quintuple.{firstRound}
@@ -33,7 +33,7 @@ returns-2 c =
     let ps : List Pair = take 1 (pairsOf key) in
     let passed : (length key ≡ 16) × (length block ≡ 16) = key-passed _ _ (sym (at .before .key-code .ensures) ∙ at .if1 .left) in
     done (at .before .key-code .ensures) (at .if1 .left)
-    (through (rounds 128 1 ps 0) (packs .packing .result) (once .first-round .result) block block _ (rounds-lt 128 1 width128 ps 0) (passed .1)
+    (through (rounds128 ps 0) (packs .packing .result) (once .first-round .result) block block _ (rounds-lt 128 1 width128 ps 0) (passed .1)
     (λ i. at .before .before .slice-known .given i .fits) (passed .1) (packs .packing .ensures)
     (once .first-round .ensures ∙ ap (firstRound (packs .packing .result)) (expanding .precompute-rkeys .ensures .leaves ∙ filled key (passed .0)) ∙ first-of-key key (packs .packing .result))
     (c .before .before .unpacking .ensures))

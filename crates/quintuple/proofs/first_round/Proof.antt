@@ -10,6 +10,7 @@ use lib.Dec.{lit<}
 use lib.ListN.{length, getD}
 use Rattle.bits.proofs.Computed.{cond-true, cond-false}
 use Rattle.published.specs.Rounds.{rounds}
+use Rattle.published.specs.Gift128.{rounds128}
 use Rattle.primitives.specs.Packed.{blockOf, stateOf}
 use Rattle.primitives.specs.Arranged.{stands, pairsFrom}
 use Rattle.primitives.specs.declared.State.{State}
@@ -45,7 +46,7 @@ returns-2 c =
     (carried 0 0 0 _ (lit< tt) refl refl (k .round-constant .ensures)) (blockIn-none (a .state)) (c4 .before .round-0 .ensures) (c4 .exchanged .ensures) in
     sym
     (cond-true _ _ _ (le-leb 2 (length ws) few)
-    ∙ ap (λ (l : List ℕ). stateOf (rounds 128 1 (pairsFrom 0 l) 0 (blockOf (a .state)))) (first-two ws few)
+    ∙ ap (λ (l : List ℕ). stateOf (rounds128 (pairsFrom 0 l) 0 (blockOf (a .state)))) (first-two ws few)
     ∙ ap stateOf (sym (ap blockOf placed ∙ in-place 1 x ∙ b))
     ∙ stateOf-blockOf r (omega (arith, c3 .unarranged .ok, c2 .unarranged2 .ok, c1 .unarranged3 .ok, c .unarranged4 .ok)))
 
