@@ -18,6 +18,7 @@ use orders::turn_code;
 ghost use mathlib.Core.Path.{_≡_};
 ghost use Prim.Native.Nat.{_<_};
 ghost use lib.ListN.{length};
+ghost use Rattle.lane.specs.Record.{idled};
 ghost use Rattle.bench.specs.Turning.{laneCount, laneAt, after, seek, chosen, turned, turnedBy, servedBy};
 ghost use Rattle.bench.specs.Calls.{freshBench, allSound, soundBench, put, Opens, MakesTurns, Takes, Closes};
 
@@ -163,6 +164,15 @@ fn put(b: Bench, i: usize, l: Lane) -> Bench
     bench
 }
 
+// The lane idle, as after a take.
+fn idle_lane(b: Bench, i: usize) -> Bench
+    requires { ⌜ i < laneCount ⌝ }
+    ensures { λ r. ⌜ r ≡ put b i (idled (laneAt (b .lanes) i)) ⌝ }
+{
+    let l = b.lanes[i];
+    put(b, i, idled(l))
+}
+
 // ---- the calls
 
 // All idle, all zero, the last lane the one last served.
@@ -237,7 +247,7 @@ pub fn take(b: Bench, lane: u32, out: &mut [u8]) -> Answer
     let i = lane as usize;
     let l = b.lanes[i];
     yielded(l, out);
-    let bench = put(b, i, idled(l));
+    let bench = idle_lane(b, i);
     Answer {
         code,
         made: 0,
@@ -256,9 +266,7 @@ pub fn close(b: Bench, lane: u32) -> Answer
             bench: b,
         };
     }
-    let i = lane as usize;
-    let l = b.lanes[i];
-    let bench = put(b, i, idled(l));
+    let bench = idle_lane(b, lane as usize);
     Answer {
         code,
         made: 0,
