@@ -7,7 +7,7 @@ use Prim.Native.Nat.{ℕ, _+_, _-_, _*_, _≤_, _<_, min}
 use lib.Dec.{eqb, leb}
 use lib.ListN.{length, take, drop, replicate}
 use Rattle.answers.specs.Numbers.{DONE, LANE_NOT_FINISHED}
-use Rattle.published.specs.Bytes.{fromBytes}
+use Rattle.published.specs.Bytes.{readBlock}
 use Rattle.published.specs.Gift128.{pairsOf, rounds128, unrounds128, encrypted, decrypted}
 use Rattle.primitives.specs.Packed.{stateOf}
 use Rattle.key_schedule.specs.Expand.{expanded}
@@ -24,8 +24,8 @@ use Rattle.bench_history.specs.History.{Call, opening, turning, taking, 
 unfoldable pub reached : ℕ → List ℕ → List ℕ → ℕ → ℕ
 reached direction key block t =
     cond (eqb direction 0)
-    (rounds128 (take (5 * t) (pairsOf key)) 0 (fromBytes block))
-    (unrounds128 (drop (40 - 5 * t) (pairsOf key)) (40 - 5 * t) (fromBytes block))
+    (rounds128 (take (5 * t) (pairsOf key)) 0 (readBlock block))
+    (unrounds128 (drop (40 - 5 * t) (pairsOf key)) (40 - 5 * t) (readBlock block))
 
 -- the whole record then: running until the eighth turn, and finished with it
 unfoldable pub standing : ℕ → List ℕ → List ℕ → ℕ → Lane

@@ -6,7 +6,7 @@ use lib.ListN.{length, take, drop, replicate}
 use Rattle.answers.specs.Numbers.{DONE, BAD_KEY_LENGTH, BAD_BLOCK_LENGTH, BAD_OUTPUT_LENGTH, BAD_WORD_COUNT}
 use Rattle.answers.specs.Order.{unless, ifDone}
 use Rattle.answers.specs.Outcome.{Gives}
-use Rattle.published.specs.Bytes.{fromBytes, toBytes}
+use Rattle.published.specs.Bytes.{readBlock, writeBlock}
 use Rattle.published.specs.Gift128.{pairsOf, rounds128, unrounds128, encrypted, decrypted}
 use Rattle.primitives.specs.Arranged.{pairsFrom}
 use Rattle.key_schedule.specs.Expand.{expanded}
@@ -41,14 +41,14 @@ newCode key = unless (eqb key 16) BAD_KEY_LENGTH DONE
 
 -- a block by eighty round words, whatever they are: the published rounds by the pairs that they stand for
 unfoldable pub encryptedBy : List ℕ → List ℕ → List ℕ
-encryptedBy ws block = toBytes 16 (rounds128 (pairsFrom 0 ws) 0 (fromBytes block))
+encryptedBy ws block = writeBlock (rounds128 (pairsFrom 0 ws) 0 (readBlock block))
 
 unfoldable pub decryptedBy : List ℕ → List ℕ → List ℕ
-decryptedBy ws block = toBytes 16 (unrounds128 (pairsFrom 0 ws) 0 (fromBytes block))
+decryptedBy ws block = writeBlock (unrounds128 (pairsFrom 0 ws) 0 (readBlock block))
 
 -- the state after round 1
 unfoldable pub afterOne : List ℕ → List ℕ → List ℕ
-afterOne key block = toBytes 16 (rounds128 (take 1 (pairsOf key)) 0 (fromBytes block))
+afterOne key block = writeBlock (rounds128 (take 1 (pairsOf key)) 0 (readBlock block))
 
 -- n blocks, block i of the answer from block i of the input
 unfoldable pub eachBlock : (List ℕ → List ℕ) → ℕ → List ℕ → List ℕ

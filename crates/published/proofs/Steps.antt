@@ -11,7 +11,8 @@ use Rattle.bits.specs.Digit.{digit, number, one, bit, ofBits, _⊕_}
 use Rattle.bits.proofs.Digits.{pow-mul, digit-lt, digit-number, number-cong, number-digit, number-lt}
 use Rattle.bits.proofs.Bits.{bit-digit, bit-ofBits, ofBits-bit, ofBits-cong, ofBits-lt, ofBits-none, ofBits-put, ⊕-twice}
 use Rattle.bits.proofs.Computed.{agree, bounded}
-use Rattle.published.specs.Rounds.{entry, unentry, subCells, unSubCells, P, moved, permBits, unPermBits, xored}
+use Rattle.published.specs.Rounds.{entry, subCells, P, moved, permBits, xored}
+use Rattle.published.specs.Undoing.{unentry, unSubCells, unPermBits}
 
 -- ---- what the laws ask of a width, one computed test for each width
 

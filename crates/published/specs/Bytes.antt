@@ -12,3 +12,10 @@ fromBytes (b ∷ bs) = b * 256 ^ length bs + fromBytes bs
 unfoldable pub toBytes : ℕ → ℕ → List ℕ
 toBytes zero x = []
 toBytes (suc k) x = digit 256 x k ∷ toBytes k x
+
+-- What a block's sixteen bytes are, each way: the number of 128 bits that they read as, and the bytes that a number is written as.
+abbrev pub readBlock : List ℕ → ℕ
+readBlock bytes = fromBytes bytes
+
+abbrev pub writeBlock : ℕ → List ℕ
+writeBlock x = toBytes 16 x

@@ -1,6 +1,6 @@
 -- The rounds of GIFT as its designers wrote them (IACR ePrint 2017/622), for a block of n bits; GIFT-64 and GIFT-128 share them.
 -- A state is a number of n bits, b(n-1)..b0. Nibble i is b(4i+3)..b(4i), its digit i to base 16.
-use mathlib.Core.Bool.{Bool, true, _&&_, _||_}
+use mathlib.Core.Bool.{Bool, true, cond, _&&_, _||_}
 use mathlib.Core.List.{List, [], _∷_}
 use Prim.Native.Nat.{ℕ, zero, suc, _+_, _-_, _*_, _/_, _%_, _^_}
 use lib.Dec.{eqb, ltb}
@@ -60,18 +60,14 @@ unfoldable pub rounds : ℕ → ℕ → List Pair → ℕ → ℕ → ℕ
 rounds n j [] r s = s
 rounds n j (p ∷ ps) r s = rounds n j ps (suc r) (round n j p (constant (suc r)) s)
 
--- Undoing: each step's inverse, the last first.
-unfoldable pub unentry : ℕ → ℕ
-unentry x = getD (0xd ∷ 0x0 ∷ 0x8 ∷ 0x6 ∷ 0x2 ∷ 0xc ∷ 0x4 ∷ 0xb ∷ 0xe ∷ 0x7 ∷ 0x1 ∷ 0xa ∷ 0x3 ∷ 0x9 ∷ 0xf ∷ 0x5 ∷ []) x 0
+-- the number below k that passes a test; 0 if none does
+unfoldable pub find : (ℕ → Bool) → ℕ → ℕ
+find test zero = 0
+find test (suc k) = cond (test k) k (find test k)
 
-unfoldable pub unSubCells : ℕ → ℕ → ℕ
-unSubCells n s = number 16 (n / 4) (λ i. unentry (digit 16 s i))
-
-unfoldable pub unPermBits : ℕ → ℕ → ℕ
-unPermBits n s = ofBits n (λ i. bit s (P n i))
-
+-- Undoing: the state of n bits that the round turns into s. (That there is one and no other is proved.)
 unfoldable pub unround : ℕ → ℕ → Pair → ℕ → ℕ → ℕ
-unround n j p c s = unSubCells n (unPermBits n (xored n (keyBit j p) (xored n (constantBit n c) s)))
+unround n j p c s = find (λ x. eqb (round n j p c x) s) (2 ^ n)
 
 unfoldable pub unrounds : ℕ → ℕ → List Pair → ℕ → ℕ → ℕ
 unrounds n j [] r s = s

@@ -14,7 +14,8 @@ use Rattle.bits.specs.Digit.{digit, isOne, bit, ofBits, _⊕_}
 use Rattle.bits.proofs.Digits.{digit-lt, digit-top}
 use Rattle.bits.proofs.Bits.{bit-digit, bit-ext, bit-ofBits, bit-out, bit-join-low, bit-xor, ofBits-bit, ofBits-cong, ofBits-lt, one-lt, ⊕-false, ⊕-assoc, ⊕-twice}
 use Rattle.bits.proofs.Computed.{below, at, agree, bounded}
-use Rattle.published.specs.Rounds.{P, Pair, entry, unentry, subCells, permBits, xored, keyBit, constantBit, step, constant, round, unround}
+use Rattle.published.specs.Rounds.{P, Pair, entry, subCells, permBits, xored, keyBit, constantBit, step, constant, round, unround}
+use Rattle.published.specs.Undoing.{unentry}
 use Rattle.published.proofs.Steps.{back, width128, unentry-lt, entry-unentry, bit-subCells, bit-permBits, bit-xored}
 use Rattle.published.proofs.Undone.{round-lt, unround-round}
 use Rattle.primitives.specs.Words.{permuted}

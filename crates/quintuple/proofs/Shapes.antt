@@ -4,7 +4,8 @@ use Prim.Native.Nat.{ℕ}
 use lib.Bits.{bitXor}
 use lib.Dec.{T, eqb, ltb}
 use Rattle.bits.proofs.Computed.{below, agree, bounded}
-use Rattle.published.specs.Rounds.{entry, unentry}
+use Rattle.published.specs.Rounds.{entry}
+use Rattle.published.specs.Undoing.{unentry}
 use Rattle.primitives.specs.Words.{permuted, swappedSingle}
 use Rattle.primitives.specs.declared.State.{State}
 use Rattle.primitives.proofs.Blocks.{same-words}

@@ -3,7 +3,8 @@ use mathlib.Core.List.{List}
 use Prim.Native.Nat.{ℕ, suc, _+_, _-_, _*_, _/_, _%_}
 use lib.ListN.{getD}
 use lib.Bits.{bitXor}
-use Rattle.published.specs.Rounds.{P, entry, unentry}
+use Rattle.published.specs.Rounds.{P, entry}
+use Rattle.published.specs.Undoing.{unentry}
 use Rattle.published.proofs.Steps.{back}
 use Rattle.primitives.specs.Words.{permuted}
 use Rattle.primitives.specs.Arranged.{nibbleAt, constantWord}

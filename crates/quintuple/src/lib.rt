@@ -1,6 +1,7 @@
 // The boxes and rounds of primitives.rs: the S-box and its inverse, five rounds and their undoing.
 ghost use mathlib.Core.Path.{_≡_};
-ghost use Rattle.published.specs.Rounds.{entry, unentry};
+ghost use Rattle.published.specs.Rounds.{entry};
+ghost use Rattle.published.specs.Undoing.{unentry};
 ghost use Rattle.quintuple.specs.Boxes.{boxed};
 ghost use Rattle.primitives.specs.Arranged.{stands};
 ghost use Prim.Native.Nat.{_≤_};

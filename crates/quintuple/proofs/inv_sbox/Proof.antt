@@ -1,7 +1,7 @@
 -- `quintuple::inv_sbox` is the inverse table, by a test at the sixteen nibbles for each of its four words.
 use Rattle.bits.specs.Digit.{bit, digit, ofBits, number}
 use Rattle.bits.proofs.Reflect.{W, var, lit, and, or, xor}
-use Rattle.published.specs.Rounds.{unentry}
+use Rattle.published.specs.Undoing.{unentry}
 use borrow.Author.Needs.{needs}
 use Rattle.primitives.specs.declared.State.{State}
 use Rattle.primitives.proofs.Blocks.{Words, same-words}
