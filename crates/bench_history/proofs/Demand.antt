@@ -9,8 +9,7 @@ use lib.Dec.{leb}
 use lib.ListN.{length, take, drop, replicate, take-append-drop}
 use borrow.Author.Tests.{eq-eqb, eqb-false, lt-leb, lt-ltb}
 use Rattle.bits.proofs.Computed.{cond-true}
-use Rattle.published.specs.Bytes.{toBytes}
-use Rattle.published.proofs.Reading.{Bytes}
+use Rattle.published.specs.Bytes.{toBytes, Bytes}
 use Rattle.published.proofs.Gift128.{block-lt}
 use Rattle.primitives.specs.Packed.{blockOf}
 use Rattle.lane_record.specs.declared.Lane.{Lane}

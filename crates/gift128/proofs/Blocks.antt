@@ -7,10 +7,9 @@ use borrow.Author.Tests.{eq-eqb, le-leb}
 use lib.Dec.{eqb, lit≤}
 use lib.ListN.{length, take, replicate}
 use Rattle.bits.proofs.Computed.{cond-true}
-use Rattle.published.specs.Bytes.{fromBytes, toBytes}
+use Rattle.published.specs.Bytes.{fromBytes, toBytes, Bytes}
 use Rattle.published.specs.Rounds.{Pair}
 use Rattle.published.specs.Gift128.{pairsOf, rounds128, unrounds128, encrypted, decrypted}
-use Rattle.published.proofs.Reading.{Bytes}
 use Rattle.published.proofs.Steps.{width128}
 use Rattle.published.proofs.Undone.{rounds-lt, unrounds-lt}
 use Rattle.published.proofs.Gift128.{block-lt}

@@ -3,8 +3,8 @@
 use mathlib.Core.List.{List}
 use Prim.Native.Nat.{ℕ}
 use Rattle.published.specs.Gift128.{encrypted, decrypted}
-use Rattle.primitives.specs.Answer.{Gives}
-use Rattle.primitives.proofs.Outcome.{OneOutcome, one-outcome}
+use Rattle.primitives.specs.Answer.{Gives, OneOutcome}
+use Rattle.primitives.proofs.Outcome.{one-outcome}
 use Rattle.key_schedule.specs.Expand.{expandCode, expanded}
 use Rattle.gift128.specs.Calls.{blockCode, keyCode, wordsCode, manyCode, encryptedBy, decryptedBy, afterOne, allBlocks}
 

@@ -4,7 +4,7 @@ use mathlib.Core.List.{List}
 use Prim.Native.Nat.{ℕ, suc}
 use lib.Dec.{eqb, eqb·suc-zero}
 use Rattle.bits.proofs.Computed.{cond-true, cond-false}
-use Rattle.primitives.specs.Answer.{Gives}
+use Rattle.primitives.specs.Answer.{Gives, OneOutcome}
 
 pub refuses : (k number : ℕ) (new old : List ℕ) → number ≡ suc k → Gives number new old (suc k) old
 refuses k number new old e =
@@ -12,10 +12,6 @@ refuses k number new old e =
 
 pub done : (number : ℕ) (new old e : List ℕ) → number ≡ 0 → e ≡ new → Gives number new old 0 e
 done number new old e n left = record { is = sym n; leaves = left ∙ sym (cond-true (eqb number 0) new old (ap (λ (m : ℕ). eqb m 0) n)) }
-
--- a promise that one outcome meets, and no second
-abbrev pub OneOutcome : (ℕ → List ℕ → Type 0) → Type 0
-OneOutcome P = (r r′ : ℕ) (e e′ : List ℕ) → P r e → P r′ e′ → (r ≡ r′) × (e ≡ e′)
 
 pub one-outcome : (number : ℕ) (new old : List ℕ) → OneOutcome (Gives number new old)
 one-outcome number new old r r′ e e′ g h = (g .is ∙ sym (h .is), g .leaves ∙ sym (h .leaves))

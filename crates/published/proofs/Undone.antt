@@ -4,28 +4,28 @@ use mathlib.Core.List.{List, [], _∷_, _++_}
 use Prim.Native.Nat.{ℕ, suc, _+_, _^_, _<_}
 use native.Mathlib.Nat.{add-zero, add-suc, suc-add}
 use lib.ListN.{length}
-use Rattle.published.specs.Rounds.{Pair, keyBit, constantBit, subCells, permBits, unPermBits, xored, round, rounds, unround, unrounds}
-use Rattle.published.proofs.Steps.{Width, unSubCells-lt, unPermBits-lt, unSub-sub, sub-unSub, permBits-lt, subCells-lt, unPerm-perm, perm-unPerm, xored-lt, xored-twice}
+use Rattle.published.specs.Rounds.{Pair, entry, unentry, keyBit, constantBit, subCells, permBits, unPermBits, xored, round, rounds, unround, unrounds}
+use Rattle.published.proofs.Steps.{Width, entry-lt, unentry-lt, unentry-entry, entry-unentry, subCells-lt, subCells-undo, permBits-lt, unPermBits-lt, unPerm-perm, perm-unPerm, xored-lt, xored-twice}
 
 module _ (n j : ℕ) (ok : Width n) where
   module _ (p : Pair) (c s : ℕ) where
     pub round-lt : round n j p c s < 2 ^ n
     unfolding round
-    round-lt = xored-lt n (constantBit n c) (xored n (keyBit j p) (permBits n (subCells n s)))
+    round-lt = xored-lt n (constantBit n c) (xored n (keyBit j p) (permBits n (subCells entry n s)))
 
     pub unround-lt : unround n j p c s < 2 ^ n
     unfolding unround
-    unround-lt = unSubCells-lt n ok (unPermBits n (xored n (keyBit j p) (xored n (constantBit n c) s)))
+    unround-lt = subCells-lt n ok unentry unentry-lt (unPermBits n (xored n (keyBit j p) (xored n (constantBit n c) s)))
 
     pub unround-round : s < 2 ^ n → unround n j p c (round n j p c s) ≡ s
     unfolding round unround
     unround-round h =
         rw (
-          xored-twice n (constantBit n c) (xored n (keyBit j p) (permBits n (subCells n s))) (xored-lt n (keyBit j p) (permBits n (subCells n s))),
-          xored-twice n (keyBit j p) (permBits n (subCells n s)) (permBits-lt n ok (subCells n s)),
-          unPerm-perm n ok (subCells n s) (subCells-lt n ok s),
+          xored-twice n (constantBit n c) (xored n (keyBit j p) (permBits n (subCells entry n s))) (xored-lt n (keyBit j p) (permBits n (subCells entry n s))),
+          xored-twice n (keyBit j p) (permBits n (subCells entry n s)) (permBits-lt n ok (subCells entry n s)),
+          unPerm-perm n ok (subCells entry n s) (subCells-lt n ok entry entry-lt s),
         )
-        (unSub-sub n ok s h)
+        (subCells-undo n ok entry entry-lt unentry unentry-entry s h)
 
     pub round-unround : s < 2 ^ n → round n j p c (unround n j p c s) ≡ s
     unfolding round unround
@@ -33,7 +33,7 @@ module _ (n j : ℕ) (ok : Width n) where
         let a : ℕ = xored n (constantBit n c) s in
         let b : ℕ = xored n (keyBit j p) a in
         rw (
-          sub-unSub n ok (unPermBits n b) (unPermBits-lt n ok b),
+          subCells-undo n ok unentry unentry-lt entry entry-unentry (unPermBits n b) (unPermBits-lt n ok b),
           perm-unPerm n ok b (xored-lt n (keyBit j p) a),
           xored-twice n (keyBit j p) a (xored-lt n (constantBit n c) s),
         )

@@ -11,8 +11,9 @@ use Rattle.bits.specs.Digit.{digit, number, one, bit, ofBits, _⊕_}
 unfoldable pub entry : ℕ → ℕ
 entry x = getD (0x1 ∷ 0xa ∷ 0x4 ∷ 0xc ∷ 0x6 ∷ 0xf ∷ 0x3 ∷ 0x9 ∷ 0x2 ∷ 0xd ∷ 0xb ∷ 0x7 ∷ 0x5 ∷ 0x0 ∷ 0x8 ∷ 0xe ∷ []) x 0
 
-unfoldable pub subCells : ℕ → ℕ → ℕ
-subCells n s = number 16 (n / 4) (λ i. entry (digit 16 s i))
+-- a state with each nibble x made f x
+unfoldable pub subCells : (ℕ → ℕ) → ℕ → ℕ → ℕ
+subCells f n s = number 16 (n / 4) (λ i. f (digit 16 s i))
 
 -- 2. Bit i moves to P(i).
 unfoldable pub P : ℕ → ℕ → ℕ
@@ -53,7 +54,7 @@ constant (suc r) = step (constant r)
 
 -- One round by the pair U, V and the constant c.
 unfoldable pub round : ℕ → ℕ → Pair → ℕ → ℕ → ℕ
-round n j p c s = xored n (constantBit n c) (xored n (keyBit j p) (permBits n (subCells n s)))
+round n j p c s = xored n (constantBit n c) (xored n (keyBit j p) (permBits n (subCells entry n s)))
 
 -- A round for each pair of a list, after r rounds.
 unfoldable pub rounds : ℕ → ℕ → List Pair → ℕ → ℕ → ℕ
@@ -64,14 +65,11 @@ rounds n j (p ∷ ps) r s = rounds n j ps (suc r) (round n j p (constant (suc r)
 unfoldable pub unentry : ℕ → ℕ
 unentry x = getD (0xd ∷ 0x0 ∷ 0x8 ∷ 0x6 ∷ 0x2 ∷ 0xc ∷ 0x4 ∷ 0xb ∷ 0xe ∷ 0x7 ∷ 0x1 ∷ 0xa ∷ 0x3 ∷ 0x9 ∷ 0xf ∷ 0x5 ∷ []) x 0
 
-unfoldable pub unSubCells : ℕ → ℕ → ℕ
-unSubCells n s = number 16 (n / 4) (λ i. unentry (digit 16 s i))
-
 unfoldable pub unPermBits : ℕ → ℕ → ℕ
 unPermBits n s = ofBits n (λ i. bit s (P n i))
 
 unfoldable pub unround : ℕ → ℕ → Pair → ℕ → ℕ → ℕ
-unround n j p c s = unSubCells n (unPermBits n (xored n (keyBit j p) (xored n (constantBit n c) s)))
+unround n j p c s = subCells unentry n (unPermBits n (xored n (keyBit j p) (xored n (constantBit n c) s)))
 
 unfoldable pub unrounds : ℕ → ℕ → List Pair → ℕ → ℕ → ℕ
 unrounds n j [] r s = s

@@ -1,10 +1,10 @@
 -- `quintuple::read_part` reads the ten words, and the five constants by the table's rule.
-use borrow.Author.Needs.{needs}
 use mathlib.Core.List.{List}
 use Prim.Native.Nat.{ℕ, _+_, _<_}
 use native.Mathlib.Omega.{arith}
-use denote.Ref.{now}
 use lib.ListN.{getD}
+use borrow.Author.Needs.{needs}
+use denote.Ref.{now}
 use Rattle.bits.specs.Digit.{digit, number, bit, ofBits}
 use Rattle.published.specs.Rounds.{P, step, constant}
 use Rattle.primitives.specs.Words.{permuted}

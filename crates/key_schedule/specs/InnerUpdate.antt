@@ -1,4 +1,4 @@
--- The update of a key word, and what it makes of a word that is kept in an arrangement.
+-- Inner: the update of a key word, and what it makes of a word that is kept in an arrangement.
 use mathlib.Core.Bool.{cond}
 use Prim.Native.Nat.{ℕ, zero, suc, _%_}
 use lib.Dec.{ltb}
