@@ -5,7 +5,7 @@ use mathlib.Core.Logic.{_≢_}
 use Prim.Native.Nat.{ℕ}
 use borrow.Author.Tests.{eq-eqb, ne-eqb}
 use Rattle.answers.specs.Order.{ifDone}
-use Rattle.answers.specs.Outcome.{Gives}
+use Rattle.answers.specs.Outcome.{Gives, OneOutcome}
 
 pub if-done {ℓ} : {A : Type ℓ} (number : ℕ) (x y : A) → number ≡ 0 → ifDone number x y ≡ x
 if-done number x y e = ap (λ (t : Bool). cond t x y) (eq-eqb number 0 e)
@@ -21,9 +21,7 @@ module _ {A : Type 0} {number r : ℕ} {new old : A} (told : r ≡ number) where
   pub done : r ≡ 0 → {e : A} → e ≡ new → Gives number new old r e
   done z left = record { is = told; leaves = left ∙ sym (if-done number new old (sym told ∙ z)) }
 
--- a promise that one outcome meets, and no second
-abbrev pub OneOutcome : {A : Type 0} → (ℕ → A → Type 0) → Type 0
-OneOutcome {A} P = (r r′ : ℕ) (e e′ : A) → P r e → P r′ e′ → (r ≡ r′) × (e ≡ e′)
+-- ---- no second outcome
 
 pub one-outcome : {A : Type 0} (number : ℕ) (new old : A) → OneOutcome (Gives number new old)
 one-outcome number new old r r′ e e′ g h = (g .is ∙ sym (h .is), g .leaves ∙ sym (h .leaves))

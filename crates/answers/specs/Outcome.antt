@@ -7,3 +7,7 @@ use Rattle.answers.specs.Order.{ifDone}
 pub record Gives {A : Type 0} (number : ℕ) (new old : A) (r : ℕ) (e : A) : Type 0 where
   pub is : r ≡ number
   pub leaves : e ≡ ifDone number new old
+
+-- a promise that one outcome meets, and no second
+abbrev pub OneOutcome : {A : Type 0} → (ℕ → A → Type 0) → Type 0
+OneOutcome {A} P = (r r′ : ℕ) (e e′ : A) → P r e → P r′ e′ → (r ≡ r′) × (e ≡ e′)

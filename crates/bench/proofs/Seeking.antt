@@ -12,8 +12,8 @@ use lib.Dec.{leb, ltb, lit<}
 use borrow.Author.Tests.{lt-ltb, le-ltb, le-leb, lt-leb, eq-eqb, ne-eqb, ltb-true, eqb-true}
 use Rattle.bits.proofs.Computed.{cond-true, cond-false}
 use Rattle.lane.specs.declared.Lane.{Lane}
-use Rattle.bench.specs.declared.Bench.{Bench}
 use Rattle.lane.specs.Record.{running}
+use Rattle.bench.specs.declared.Bench.{Bench}
 use Rattle.bench.specs.Turning.{laneCount, laneAt, runs, after, seek, chosen, anyRuns}
 
 -- all that the laws ask of the number of lanes

@@ -6,8 +6,8 @@ use lib.Dec.{eqb, ltb}
 use lib.ListN.{getD, set}
 use Rattle.packing.specs.Packing.{noWords}
 use Rattle.lane.specs.declared.Lane.{Lane}
-use Rattle.bench.specs.declared.Bench.{Bench}
 use Rattle.lane.specs.Record.{idle, running, served}
+use Rattle.bench.specs.declared.Bench.{Bench}
 
 -- how many lanes a bench has
 unfoldable pub laneCount : ℕ

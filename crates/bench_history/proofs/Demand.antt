@@ -11,8 +11,7 @@ use borrow.Author.Tests.{eqb-false, lt-leb, lt-ltb}
 use Rattle.answers.specs.Numbers.{DONE, LANE_NOT_FINISHED}
 use Rattle.answers.proofs.Outcome.{if-done}
 use Rattle.bits.proofs.Truth.{both, together}
-use Rattle.published.specs.Bytes.{toBytes}
-use Rattle.published.proofs.Reading.{Bytes}
+use Rattle.published.specs.Bytes.{toBytes, Bytes}
 use Rattle.published.proofs.Gift128.{block-lt}
 use Rattle.primitives.specs.Packed.{blockOf}
 use Rattle.lane.specs.declared.Lane.{Lane}

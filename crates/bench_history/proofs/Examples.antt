@@ -3,8 +3,8 @@ use mathlib.Core.Path.{_≡_, refl}
 use mathlib.Core.List.{List, [], _∷_, _++_, map}
 use Prim.Native.Nat.{ℕ, _*_}
 use lib.ListN.{length, take, replicate}
-use Rattle.bench.specs.declared.Bench.{Bench}
 use Rattle.lane.specs.Record.{soundCount, soundLane, idleWith, opened, served, lacks}
+use Rattle.bench.specs.declared.Bench.{Bench}
 use Rattle.bench.specs.Turning.{laneCount, runs, after, seek, chosen, anyRuns, turned, turnedBy, servedBy, total}
 use Rattle.bench.specs.Orders.{openCode, turnCode, takeCode, closeCode}
 use Rattle.bench.specs.Calls.{freshBench, allSound, soundBench, put, answered, openOf, turnOf, takeOf, closeOf}

@@ -7,12 +7,12 @@ use Prim.Native.Nat.{ℕ, _≤_, _<_}
 use native.Mathlib.Decide.{ℕ-discrete}
 use lib.Dec.{eqb, leb}
 use borrow.Author.Tests.{eq-eqb, ne-eqb, le-leb}
+use Rattle.bits.proofs.Truth.{together}
 use Rattle.lane.specs.declared.Lane.{Lane}
-use Rattle.bench.specs.declared.Bench.{Bench}
 use Rattle.lane.specs.Record.{idle, finished, soundLane, soundCount, idleWith, opened, idled}
+use Rattle.bench.specs.declared.Bench.{Bench}
 use Rattle.bench.specs.Turning.{laneCount, laneAt, turnedBy, servedBy}
 use Rattle.bench.specs.Calls.{put, takeOf, closeOf}
-use Rattle.bits.proofs.Truth.{together}
 use Rattle.bench.proofs.Soundness.{Sound, sound-put, set-here, set-there}
 use Rattle.bench.proofs.Made.{sound-turns}
 use Rattle.bench_history.specs.History.{Call, opening, turning, taking, closing, answerTo, codeOf, leaves, serves, closes, releases}

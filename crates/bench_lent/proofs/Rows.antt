@@ -1,8 +1,8 @@
 -- Lane records in memory: one at a place of a row, a local array as a row, and a row that is copied record by record.
 -- Assumes `Given`.
 use mathlib.Core.Path.{_≡_, sym, _∙_, ap, subst}
-use Prim.Native.Nat.{ℕ, suc, _<_, _≤_}
 use mathlib.Core.List.{List, [], _∷_, _++_}
+use Prim.Native.Nat.{ℕ, suc, _<_, _≤_}
 use lib.Dec.{T as Holds}
 use lib.ListN.{length, getD, set, take}
 use lib.Seq.{take-all, take-suc, take-suc-set}

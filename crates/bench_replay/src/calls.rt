@@ -4,8 +4,8 @@ use check::same;
 use lane::Lane;
 use packing::packing;
 use primitives::State;
-ghost use Prim.Native.Nat.{_<_};
 ghost use mathlib.Core.Path.{_≡_};
+ghost use Prim.Native.Nat.{_<_};
 ghost use lib.ListN.{length};
 
 // What came of a call. Only turn tells turns, and only take has a buffer; else there are none told, and nothing in the buffer.

@@ -1,7 +1,8 @@
 -- No call of the cipher has a second outcome: each promise as the source cites it, and one law.
 use mathlib.Core.List.{List}
-use Rattle.answers.proofs.Outcome.{OneOutcome, one-outcome}
 use Prim.Native.Nat.{ℕ}
+use Rattle.answers.specs.Outcome.{OneOutcome}
+use Rattle.answers.proofs.Outcome.{one-outcome}
 use Rattle.key_schedule.specs.Expand.{Expands}
 use Rattle.gift128.specs.Calls.{EncryptsByKey, DecryptsByKey, EncryptsByWords, DecryptsByWords, EncryptsBlocks, DecryptsBlocks, MakesOneRound, MakesCipher, EncryptsBlock, DecryptsBlock}
 

@@ -3,14 +3,14 @@ use mathlib.Core.Path.{_≡_, sym, ap, _∙_}
 use mathlib.Core.List.{List}
 use Prim.Native.Nat.{ℕ}
 use lib.ListN.{length}
-use Rattle.published.specs.Bytes.{fromBytes, toBytes}
+use Rattle.published.specs.Bytes.{fromBytes, toBytes, Bytes}
 use Rattle.published.specs.Rounds.{Pair}
 use Rattle.published.specs.Gift128.{rounds128, unrounds128}
-use Rattle.published.proofs.Reading.{Bytes, from-to, to-from}
+use Rattle.published.proofs.Reading.{from-to, to-from}
 use Rattle.published.proofs.Steps.{width128}
 use Rattle.published.proofs.Undone.{rounds-lt, unrounds-lt, unrounds-rounds, rounds-unrounds}
 use Rattle.published.proofs.Gift128.{block-lt}
-use Rattle.primitives.specs.Arranged.{pairsFrom}
+use Rattle.round_words.specs.Arranged.{pairsFrom}
 use Rattle.gift128.specs.Calls.{encryptedBy, decryptedBy}
 
 module _ (ws block : List ℕ) (len : length block ≡ 16) (h : Bytes block) where

@@ -8,7 +8,7 @@ use Rattle.answers.specs.Order.{unless, ifDone}
 use Rattle.answers.specs.Outcome.{Gives}
 use Rattle.published.specs.Bytes.{readBlock, writeBlock}
 use Rattle.published.specs.Gift128.{pairsOf, rounds128, unrounds128, encrypted, decrypted}
-use Rattle.primitives.specs.Arranged.{pairsFrom}
+use Rattle.round_words.specs.Arranged.{pairsFrom}
 use Rattle.key_schedule.specs.Expand.{expanded}
 
 -- ---- the numbers, by the lengths of what is lent

@@ -3,7 +3,7 @@ use mathlib.Core.Bool.{Bool, true, false}
 use mathlib.Core.List.{List}
 use Prim.Native.Nat.{ℕ}
 use Rattle.published.specs.Gift128.{rounds128, unrounds128, encrypted, decrypted}
-use Rattle.primitives.specs.Arranged.{pairsFrom}
+use Rattle.round_words.specs.Arranged.{pairsFrom}
 use Rattle.gift128.specs.Calls.{encryptedBy, decryptedBy}
 
 -- the rounds by eighty words, on a state

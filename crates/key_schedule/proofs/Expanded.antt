@@ -4,16 +4,15 @@ use mathlib.Core.List.{List, _++_}
 use Prim.Native.Nat.{ℕ, zero, suc, _*_}
 use lib.Dec.{lit<}
 use lib.ListN.{length, take}
-use Rattle.published.specs.Bytes.{fromBytes}
+use Rattle.published.specs.Bytes.{fromBytes, Bytes}
 use Rattle.published.specs.Key.{update, pairs}
 use Rattle.published.specs.Gift128.{pairOf, pairsOf}
 use Rattle.published.proofs.Gift128.{length-pairs}
-use Rattle.published.proofs.Reading.{Bytes}
-use Rattle.primitives.specs.Arranged.{pairsFrom}
-use Rattle.primitives.proofs.Pairs.{Fit, length-words, pairs-words}
+use Rattle.round_words.specs.Arranged.{pairsFrom}
+use Rattle.round_words.proofs.Pairs.{Fit, length-words, pairs-words}
 use Rattle.key_schedule.specs.declared.Ten.{Ten}
-use Rattle.key_schedule.specs.Tens.{firstWords, fiveRounds, fiveLater, wordsOf, following, grown}
 use Rattle.key_schedule.specs.Expand.{expanded}
+use Rattle.key_schedule.specs.InnerTens.{firstWords, fiveRounds, fiveLater, wordsOf, following, grown}
 use Rattle.key_schedule.proofs.KeyState.{u-lt, v-lt, fourOf, four-later, tens-of}
 use Rattle.key_schedule.proofs.KeyBytes.{first-words-are}
 

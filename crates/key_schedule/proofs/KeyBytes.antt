@@ -4,20 +4,20 @@ use mathlib.Core.Bool.{Bool, true, false, cond}
 use mathlib.Core.List.{List, [], _∷_}
 use Prim.Native.Nat.{ℕ, zero, suc, _+_, _-_, _*_, _/_, _%_, _^_, _≤_, _<_}
 use native.Mathlib.Omega.{arith}
-use borrow.Author.Tests.{ltb-true, ltb-false}
 use lib.Arith.{digits-lt}
 use lib.Dec.{ltb, lit<}
 use lib.ListN.{length, getD, take, drop, length-take, length-drop}
 use lib.Seq.{getD-take, getD-drop}
+use borrow.Author.Tests.{ltb-true, ltb-false}
 use Rattle.bits.specs.Digit.{digit, bit}
-use Rattle.bits.proofs.Bits.{bit-digit, bit-ext}
 use Rattle.bits.proofs.Digits.{digit-lt}
-use Rattle.published.specs.Bytes.{fromBytes}
+use Rattle.bits.proofs.Bits.{bit-digit, bit-ext}
+use Rattle.published.specs.Bytes.{fromBytes, Bytes}
 use Rattle.published.specs.Rounds.{Pair}
 use Rattle.published.specs.Key.{_‖_}
 use Rattle.published.specs.Gift128.{pairOf}
-use Rattle.published.proofs.Reading.{Bytes, bit-fromBytes, fromBytes-lt}
-use Rattle.key_schedule.specs.Tens.{firstWords}
+use Rattle.published.proofs.Reading.{bit-fromBytes, fromBytes-lt}
+use Rattle.key_schedule.specs.InnerTens.{firstWords}
 use Rattle.key_schedule.proofs.Updates.{bit-join}
 use Rattle.key_schedule.proofs.TenWords.{same-four}
 use Rattle.key_schedule.proofs.KeyState.{one-on, fourOf}

@@ -12,12 +12,12 @@ use Rattle.bits.proofs.Truth.{cond-either}
 use Rattle.published.specs.Rounds.{Pair}
 use Rattle.published.specs.Key.{_‖_, ror16, update, pairs}
 use Rattle.published.specs.Gift128.{pairOf}
-use Rattle.primitives.specs.Arranged.{arranged, wordsFrom}
-use Rattle.primitives.proofs.Arrangements.{stands-arranged}
+use Rattle.round_words.specs.Arranged.{arranged, wordsFrom}
+use Rattle.round_words.proofs.Arrangements.{stands-arranged}
 use Rattle.key_schedule.specs.declared.Four.{Four}
 use Rattle.key_schedule.specs.declared.Ten.{Ten}
-use Rattle.key_schedule.specs.Update.{updated, updates, later}
-use Rattle.key_schedule.specs.Tens.{fiveRounds, fiveLater, tenLater, wordsOf, following}
+use Rattle.key_schedule.specs.InnerUpdate.{updated, updates, later}
+use Rattle.key_schedule.specs.InnerTens.{fiveRounds, fiveLater, tenLater, wordsOf, following}
 use Rattle.key_schedule.proofs.Updates.{ror16-lt, updated-lt}
 use Rattle.key_schedule.proofs.TenWords.{same-four, same-ten}
 

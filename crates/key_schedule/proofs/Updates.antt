@@ -5,21 +5,21 @@ use mathlib.Core.List.{[], _∷_}
 use Prim.Native.Nat.{ℕ, zero, suc, _+_, _-_, _*_, _%_, _^_, _≤_, _<_}
 use native.Mathlib.Nat.{mod-lt, add-sub-of-le}
 use native.Mathlib.Omega.{arith}
-use borrow.Author.Tests.{ltb-true, ltb-false}
 use lib.Arith.{digits-lt}
 use lib.Bits.{bitAnd, and-lt}
 use lib.Dec.{T, ltb, ltb→lt, lit<}
 use lib.Pow.{high}
+use borrow.Author.Tests.{ltb-true, ltb-false}
 use Rattle.bits.specs.Digit.{digit, bit}
 use Rattle.bits.proofs.Bits.{bit-digit, bit-ext, bit-join-low, bit-ofBits, bit-shr, ofBits-lt}
 use Rattle.bits.proofs.Computed.{and-left, and-right, bounded}
 use Rattle.bits.proofs.Reflect.{W, var, lit, and, or, shr, shl, value}
 use Rattle.published.specs.Key.{ror16}
 use Rattle.primitives.specs.Words.{permuted, rorIn}
-use Rattle.primitives.specs.Arranged.{nibbleAt, arranged, stands}
 use Rattle.primitives.proofs.Moves.{bit-permuted, permuted-lt, permuted-then, isMove, moves}
-use Rattle.primitives.proofs.Arrangements.{nibbleAt-lt}
-use Rattle.key_schedule.specs.Update.{updated, updates, later}
+use Rattle.round_words.specs.Arranged.{nibbleAt, arranged, stands}
+use Rattle.round_words.proofs.Arrangements.{nibbleAt-lt}
+use Rattle.key_schedule.specs.InnerUpdate.{updated, updates, later}
 
 -- ---- hi ‖ lo, and a word of 16 bits that goes round
 

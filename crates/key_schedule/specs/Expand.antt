@@ -7,7 +7,7 @@ use Rattle.answers.specs.Numbers.{DONE, BAD_KEY_LENGTH, BAD_WORD_COUNT}
 use Rattle.answers.specs.Order.{unless}
 use Rattle.answers.specs.Outcome.{Gives}
 use Rattle.published.specs.Gift128.{pairsOf}
-use Rattle.primitives.specs.Arranged.{wordsFrom}
+use Rattle.round_words.specs.Arranged.{wordsFrom}
 
 -- the number, by the lengths of key and words: 1, 4
 unfoldable pub expandCode : (key words : ℕ) → ℕ

@@ -9,10 +9,10 @@ ghost use mathlib.Core.Path.{_≡_};
 ghost use lib.ListN.{length};
 ghost use Rattle.published.specs.Bytes.{fromBytes};
 ghost use Rattle.primitives.specs.Words.{permuted};
-ghost use Rattle.primitives.specs.Arranged.{arranged};
-ghost use Rattle.key_schedule.specs.Update.{updated, later, tripled};
-ghost use Rattle.key_schedule.specs.Tens.{firstWords, fiveRounds, fiveLater, tenLater, wordsOf, tenOf, grown};
+ghost use Rattle.round_words.specs.Arranged.{arranged};
 ghost use Rattle.key_schedule.specs.Expand.{expandCode, expanded, Expands};
+ghost use Rattle.key_schedule.specs.InnerUpdate.{updated, later, tripled};
+ghost use Rattle.key_schedule.specs.InnerTens.{firstWords, fiveRounds, fiveLater, tenLater, wordsOf, tenOf, grown};
 
 fn rearrange_rkey_0(x: u32) -> u32
     ensures { λ r. ⌜ r ≡ arranged 1 x ⌝ }
@@ -185,14 +185,13 @@ fn five_rounds(w: Four) -> Ten
     let u2 = key_update(w.v0);
     let u3 = key_update(w.v1);
     let u4 = key_update(w.u0);
-    let kept = rearrange_rkey_2(u2);
     Ten {
         v0: rearrange_rkey_0(w.v0),
         u0: rearrange_rkey_0(w.u0),
         v1: rearrange_rkey_1(w.v1),
         u1: rearrange_rkey_1(w.u1),
         v2: rearrange_rkey_2(w.u0),
-        u2: kept,
+        u2: rearrange_rkey_2(u2),
         v3: rearrange_rkey_3(w.u1),
         u3: rearrange_rkey_3(u3),
         v4: u2,

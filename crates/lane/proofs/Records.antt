@@ -10,6 +10,7 @@ use lib.ListN.{length, replicate}
 use borrow.Author.Tests.{lt-ltb, le-ltb, le-leb, lt-leb, eq-eqb, eqb-true, eqb-false, leb-true}
 use Rattle.answers.specs.Order.{ifDone}
 use Rattle.bits.proofs.Computed.{cond-true}
+use Rattle.bits.proofs.Truth.{both, together, cond-either}
 use Rattle.published.specs.Bytes.{fromBytes, toBytes}
 use Rattle.primitives.specs.declared.State.{State}
 use Rattle.primitives.specs.Packed.{blockOf, stateOf}
@@ -19,7 +20,6 @@ use Rattle.key_schedule.specs.Expand.{expanded}
 use Rattle.gift128.specs.Calls.{newCode}
 use Rattle.lane.specs.declared.Lane.{Lane}
 use Rattle.lane.specs.Record.{running, finished, idle, soundCount, soundLane, opened, advanced, served, lacks, yielded}
-use Rattle.bits.proofs.Truth.{both, together, cond-either}
 
 -- a lane with a running record that is sound has turns left
 pub running-count : (l : Lane) → soundLane l ≡ true → l .phase ≡ running → l .count < 8

@@ -5,8 +5,8 @@ use Prim.Native.Nat.{ℕ}
 use lib.Dec.{eqb}
 use lib.ListN.{length}
 use Rattle.published.specs.Bytes.{readBlock, writeBlock}
-use Rattle.primitives.specs.Packed.{blockOf, stateOf}
 use Rattle.primitives.specs.declared.State.{State}
+use Rattle.primitives.specs.Packed.{blockOf, stateOf}
 
 -- what a slice of another length is packed to
 abbrev pub noWords : State

@@ -3,11 +3,11 @@ use mathlib.Core.Path.{_≡_, refl, sym, ap, _∙_}
 use mathlib.Core.List.{List}
 use Prim.Native.Nat.{ℕ, zero, suc, _^_, _<_}
 use lib.ListN.{length}
-use Rattle.published.specs.Bytes.{fromBytes, toBytes}
+use Rattle.published.specs.Bytes.{fromBytes, toBytes, Bytes}
 use Rattle.published.specs.Rounds.{Pair}
 use Rattle.published.specs.Key.{pairs, update}
 use Rattle.published.specs.Gift128.{pairsOf, rounds128, unrounds128, encrypted, decrypted}
-use Rattle.published.proofs.Reading.{Bytes, from-to, to-from, fromBytes-lt}
+use Rattle.published.proofs.Reading.{from-to, to-from, fromBytes-lt}
 use Rattle.published.proofs.Steps.{width128}
 use Rattle.published.proofs.Undone.{rounds-lt, unrounds-lt, unrounds-rounds, rounds-unrounds}
 

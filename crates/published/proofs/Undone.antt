@@ -11,9 +11,9 @@ use lib.ListN.{length}
 use lib.Pow.{pow-pos}
 use borrow.Author.Tests.{eq-eqb, eqb-true}
 use Rattle.bits.proofs.Truth.{cond-either}
-use Rattle.published.specs.Rounds.{Pair, keyBit, constantBit, subCells, permBits, xored, round, rounds, find, unround, unrounds}
-use Rattle.published.specs.Undoing.{unPermBits, stepsBack}
-use Rattle.published.proofs.Steps.{Width, unSubCells-lt, unPermBits-lt, unSub-sub, sub-unSub, permBits-lt, subCells-lt, unPerm-perm, perm-unPerm, xored-lt, xored-twice}
+use Rattle.published.specs.Rounds.{Pair, entry, keyBit, constantBit, subCells, permBits, xored, round, rounds, find, unround, unrounds}
+use Rattle.published.specs.Inner.{unentry, unPermBits, stepsBack}
+use Rattle.published.proofs.Steps.{Width, entry-lt, unentry-lt, unentry-entry, entry-unentry, subCells-lt, subCells-undo, permBits-lt, unPermBits-lt, unPerm-perm, perm-unPerm, xored-lt, xored-twice}
 
 -- ---- a number that a test finds
 
@@ -45,23 +45,23 @@ module _ (n j : ℕ) (ok : Width n) where
   module _ (p : Pair) (c s : ℕ) where
     pub round-lt : round n j p c s < 2 ^ n
     unfolding round
-    round-lt = xored-lt n (constantBit n c) (xored n (keyBit j p) (permBits n (subCells n s)))
+    round-lt = xored-lt n (constantBit n c) (xored n (keyBit j p) (permBits n (subCells entry n s)))
 
     -- ---- the steps back undo the round, and are undone by it
 
     stepsBack-lt : stepsBack n j p c s < 2 ^ n
     unfolding stepsBack
-    stepsBack-lt = unSubCells-lt n ok (unPermBits n (xored n (keyBit j p) (xored n (constantBit n c) s)))
+    stepsBack-lt = subCells-lt n ok unentry unentry-lt (unPermBits n (xored n (keyBit j p) (xored n (constantBit n c) s)))
 
     stepsBack-round : s < 2 ^ n → stepsBack n j p c (round n j p c s) ≡ s
     unfolding round stepsBack
     stepsBack-round h =
         rw (
-          xored-twice n (constantBit n c) (xored n (keyBit j p) (permBits n (subCells n s))) (xored-lt n (keyBit j p) (permBits n (subCells n s))),
-          xored-twice n (keyBit j p) (permBits n (subCells n s)) (permBits-lt n ok (subCells n s)),
-          unPerm-perm n ok (subCells n s) (subCells-lt n ok s),
+          xored-twice n (constantBit n c) (xored n (keyBit j p) (permBits n (subCells entry n s))) (xored-lt n (keyBit j p) (permBits n (subCells entry n s))),
+          xored-twice n (keyBit j p) (permBits n (subCells entry n s)) (permBits-lt n ok (subCells entry n s)),
+          unPerm-perm n ok (subCells entry n s) (subCells-lt n ok entry entry-lt s),
         )
-        (unSub-sub n ok s h)
+        (subCells-undo n ok entry entry-lt unentry unentry-entry s h)
 
     round-stepsBack : s < 2 ^ n → round n j p c (stepsBack n j p c s) ≡ s
     unfolding round stepsBack
@@ -69,7 +69,7 @@ module _ (n j : ℕ) (ok : Width n) where
         let a : ℕ = xored n (constantBit n c) s in
         let b : ℕ = xored n (keyBit j p) a in
         rw (
-          sub-unSub n ok (unPermBits n b) (unPermBits-lt n ok b),
+          subCells-undo n ok unentry unentry-lt entry entry-unentry (unPermBits n b) (unPermBits-lt n ok b),
           perm-unPerm n ok b (xored-lt n (keyBit j p) a),
           xored-twice n (keyBit j p) a (xored-lt n (constantBit n c) s),
         )

@@ -1,7 +1,7 @@
--- Bytes read as one number, byte 0 the most significant, and a number written as bytes.
+-- Bytes read as one number, byte 0 the most significant, and a number written as bytes; lists of bytes.
 use mathlib.Core.List.{List, [], _∷_}
-use Prim.Native.Nat.{ℕ, zero, suc, _+_, _*_, _^_}
-use lib.ListN.{length}
+use Prim.Native.Nat.{ℕ, zero, suc, _+_, _*_, _^_, _<_}
+use lib.ListN.{length, getD}
 use Rattle.bits.specs.Digit.{digit}
 
 unfoldable pub fromBytes : List ℕ → ℕ
@@ -19,3 +19,7 @@ readBlock bytes = fromBytes bytes
 
 abbrev pub writeBlock : ℕ → List ℕ
 writeBlock x = toBytes 16 x
+
+-- every element is a byte: so said, it is what a slice of bytes is known to be
+abbrev pub Bytes : List ℕ → Type 0
+Bytes bs = (i : ℕ) → getD bs i 0 < 256

@@ -11,8 +11,9 @@ use Rattle.bits.specs.Digit.{digit, number, one, bit, ofBits, _⊕_}
 unfoldable pub entry : ℕ → ℕ
 entry x = getD (0x1 ∷ 0xa ∷ 0x4 ∷ 0xc ∷ 0x6 ∷ 0xf ∷ 0x3 ∷ 0x9 ∷ 0x2 ∷ 0xd ∷ 0xb ∷ 0x7 ∷ 0x5 ∷ 0x0 ∷ 0x8 ∷ 0xe ∷ []) x 0
 
-unfoldable pub subCells : ℕ → ℕ → ℕ
-subCells n s = number 16 (n / 4) (λ i. entry (digit 16 s i))
+-- a state with each nibble x made f x
+unfoldable pub subCells : (ℕ → ℕ) → ℕ → ℕ → ℕ
+subCells f n s = number 16 (n / 4) (λ i. f (digit 16 s i))
 
 -- 2. Bit i moves to P(i).
 unfoldable pub P : ℕ → ℕ → ℕ
@@ -53,7 +54,7 @@ constant (suc r) = step (constant r)
 
 -- One round by the pair U, V and the constant c.
 unfoldable pub round : ℕ → ℕ → Pair → ℕ → ℕ → ℕ
-round n j p c s = xored n (constantBit n c) (xored n (keyBit j p) (permBits n (subCells n s)))
+round n j p c s = xored n (constantBit n c) (xored n (keyBit j p) (permBits n (subCells entry n s)))
 
 -- A round for each pair of a list, after r rounds.
 unfoldable pub rounds : ℕ → ℕ → List Pair → ℕ → ℕ → ℕ

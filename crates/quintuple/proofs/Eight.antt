@@ -12,9 +12,9 @@ use Rattle.published.specs.Gift128.{rounds128, unrounds128}
 use Rattle.published.proofs.Steps.{width128}
 use Rattle.published.proofs.Undone.{rounds-lt, unrounds-lt, rounds-append, unrounds-append}
 use Rattle.primitives.specs.Packed.{stateOf}
-use Rattle.primitives.specs.Arranged.{pairsFrom}
 use Rattle.primitives.proofs.Blocks.{blockOf-stateOf}
-use Rattle.primitives.proofs.Pairs.{forty, five-pairs}
+use Rattle.round_words.specs.Arranged.{pairsFrom}
+use Rattle.round_words.proofs.Pairs.{forty, five-pairs}
 use Rattle.quintuple.specs.Quintuple.{quintupled, unquintupled}
 use Rattle.quintuple.proofs.Five.{all-good}
 

@@ -5,9 +5,9 @@ use Prim.Native.Nat.{ℕ, _%_}
 use lib.Dec.{leb, eqb}
 use lib.ListN.{length, take}
 use Rattle.published.specs.Gift128.{rounds128, unrounds128}
-use Rattle.primitives.specs.Packed.{blockOf, stateOf}
-use Rattle.primitives.specs.Arranged.{pairsFrom}
 use Rattle.primitives.specs.declared.State.{State}
+use Rattle.primitives.specs.Packed.{blockOf, stateOf}
+use Rattle.round_words.specs.Arranged.{pairsFrom}
 
 -- ten words at least, and an offset that is one of 0, 5, .. 35
 abbrev pub good : List ℕ → ℕ → Bool

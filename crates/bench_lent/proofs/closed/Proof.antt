@@ -1,6 +1,6 @@
 -- `bench_lent::closed` meets its contract: what the by-value call gives, field by field.
-use borrow.Author.Needs.{needs}
 use mathlib.Core.Path.{ap}
+use borrow.Author.Needs.{needs}
 use Rattle.bench.specs.declared.Closed.{Closed}
 use Rattle.bench_lent.proofs.closed.Statement.{statement}
 use Rattle.bench_lent.proofs.closed.Tie as tie

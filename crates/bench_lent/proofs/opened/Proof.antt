@@ -1,6 +1,6 @@
 -- `bench_lent::opened` meets its contract: what the by-value call gives, field by field.
-use borrow.Author.Needs.{needs}
 use mathlib.Core.Path.{ap}
+use borrow.Author.Needs.{needs}
 use Rattle.bench.specs.declared.Opened.{Opened}
 use Rattle.bench_lent.proofs.opened.Statement.{statement}
 use Rattle.bench_lent.proofs.opened.Tie as tie

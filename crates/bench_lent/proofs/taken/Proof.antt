@@ -1,6 +1,6 @@
 -- `bench_lent::taken` meets its contract: what the by-value call gives, field by field.
-use borrow.Author.Needs.{needs}
 use mathlib.Core.Path.{ap}
+use borrow.Author.Needs.{needs}
 use Rattle.bench.specs.declared.Taken.{Taken}
 use Rattle.bench_lent.proofs.taken.Statement.{statement}
 use Rattle.bench_lent.proofs.taken.Tie as tie

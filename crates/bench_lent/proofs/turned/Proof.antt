@@ -1,6 +1,6 @@
 -- `bench_lent::turned` meets its contract: what the by-value call gives, field by field.
-use borrow.Author.Needs.{needs}
 use mathlib.Core.Path.{ap}
+use borrow.Author.Needs.{needs}
 use Rattle.bench.specs.declared.Turned.{Turned}
 use Rattle.bench_lent.proofs.turned.Statement.{statement}
 use Rattle.bench_lent.proofs.turned.Tie as tie

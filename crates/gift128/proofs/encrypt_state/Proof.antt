@@ -3,15 +3,15 @@ use mathlib.Core.Path.{_≡_, refl, sym, ap, _∙_}
 use mathlib.Core.List.{List}
 use Prim.Native.Nat.{ℕ, _-_, _*_, _%_, _≤_, _<_}
 use native.Mathlib.Omega.{arith}
+use lib.ListN.{take, drop}
 use borrow.Rule.Slice.PartAt.{part-to-end}
 use denote.Ref.{now}
-use lib.ListN.{take, drop}
 use Rattle.published.specs.Rounds.{rounds}
 use Rattle.published.specs.Gift128.{rounds128}
 use Rattle.primitives.specs.Packed.{blockOf, stateOf}
-use Rattle.primitives.specs.Arranged.{pairsFrom}
 use Rattle.primitives.specs.declared.State.{State}
 use Rattle.primitives.proofs.Blocks.{stateOf-blockOf, blockOf-lt}
+use Rattle.round_words.specs.Arranged.{pairsFrom}
 use Rattle.quintuple.specs.Quintuple.{quintupled}
 use Rattle.quintuple.proofs.Eight.{forward, all-done}
 use Rattle.gift128.proofs.encrypt_state.Statement.{statement}

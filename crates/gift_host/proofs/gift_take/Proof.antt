@@ -9,8 +9,8 @@ use prog.Memory.{Memory}
 use prog.Routine.{Routine}
 use prog.Wp.{Heap, WpFn, Tables}
 use ghost.Atoms.{Atoms}
-use sound.WpLaws.{fmOf}
 use contract.Monad.{Fun}
+use sound.WpLaws.{fmOf}
 use types.Kit.{Given, raw, _$_, _∵_, !, qed, move, done}
 use types.Run.{look, init, forget, stop, from, load, no-more, and-then, returns, enter, params1, pass1, pass0}
 use denote.Builtin.{u8}

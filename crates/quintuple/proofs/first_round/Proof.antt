@@ -3,18 +3,18 @@ use mathlib.Core.Path.{_≡_, refl, sym, ap, _∙_}
 use mathlib.Core.List.{List}
 use Prim.Native.Nat.{ℕ, _≤_}
 use native.Mathlib.Omega.{arith}
+use lib.Dec.{lit<}
+use lib.ListN.{length, getD}
 use borrow.Author.Needs.{needs}
 use borrow.Author.Tests.{le-leb, lt-leb}
 use denote.Ref.{now}
-use lib.Dec.{lit<}
-use lib.ListN.{length, getD}
 use Rattle.bits.proofs.Computed.{cond-true, cond-false}
 use Rattle.published.specs.Rounds.{rounds}
 use Rattle.published.specs.Gift128.{rounds128}
-use Rattle.primitives.specs.Packed.{blockOf, stateOf}
-use Rattle.primitives.specs.Arranged.{stands, pairsFrom}
 use Rattle.primitives.specs.declared.State.{State}
+use Rattle.primitives.specs.Packed.{blockOf, stateOf}
 use Rattle.primitives.proofs.Blocks.{same-words, stateOf-blockOf}
+use Rattle.round_words.specs.Arranged.{stands, pairsFrom}
 use Rattle.quintuple.specs.Quintuple.{firstRound}
 use Rattle.quintuple.proofs.Fixslice.{blockIn-none}
 use Rattle.quintuple.proofs.Five.{carried, go-on, first-two, in-place}

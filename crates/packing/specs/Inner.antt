@@ -1,11 +1,11 @@
--- The four words as their bytes are read and written: between them and the packed words stand the swaps.
+-- Inner: the four words as their bytes are read and written: between them and the packed words stand the swaps.
 use mathlib.Core.List.{List, [], _∷_}
 use Prim.Native.Nat.{ℕ, _+_, _*_, _/_, _%_}
 use lib.ListN.{getD, set}
 use Rattle.bits.specs.Digit.{digit}
 use Rattle.published.specs.Bytes.{fromBytes}
-use Rattle.primitives.specs.Words.{permuted}
 use Rattle.primitives.specs.declared.State.{State}
+use Rattle.primitives.specs.Words.{permuted}
 
 -- the four words of which bit i of word j is bit p j i of the block x
 abbrev pub placed : (ℕ → ℕ → ℕ) → ℕ → State

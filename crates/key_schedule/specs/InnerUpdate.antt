@@ -1,11 +1,11 @@
--- The update of a key word, and what it makes of a word that is kept in an arrangement.
+-- Inner: the update of a key word, and what it makes of a word that is kept in an arrangement.
 use mathlib.Core.Bool.{cond}
 use Prim.Native.Nat.{ℕ, zero, suc, _%_}
 use lib.Dec.{ltb}
 use Rattle.bits.specs.Digit.{digit}
 use Rattle.published.specs.Key.{_‖_, ror16}
 use Rattle.primitives.specs.Words.{rorIn}
-use Rattle.primitives.specs.Arranged.{arranged, stands}
+use Rattle.round_words.specs.Arranged.{arranged, stands}
 
 -- The published update of V = k1 ‖ k0, as the key state turns it into a U: (k1 rotated right 2) ‖ (k0 rotated right 12).
 unfoldable pub updated : ℕ → ℕ

@@ -6,8 +6,8 @@ use native.Mathlib.Nat.{lt-of-le-of-lt, sub-le}
 use lib.Dec.{T, eqb, eqb→eq, ltb, ltb→lt, lit<}
 use Rattle.bits.proofs.Computed.{below, at}
 use Rattle.published.specs.Rounds.{P}
-use Rattle.primitives.specs.Arranged.{N, nibbleAt, arranged, stands}
 use Rattle.primitives.proofs.Moves.{permuted-lt, permuted-id, permuted-then}
+use Rattle.round_words.specs.Arranged.{N, nibbleAt, arranged, stands}
 
 -- a fact of each k up to 5 and each place, by a test
 pub each-place : (f : ℕ → ℕ → Bool) → T (below 6 (λ k. below 32 (f k))) → (k i : ℕ) → k < 6 → i < 32 → T (f k i)

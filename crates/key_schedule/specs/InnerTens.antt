@@ -1,13 +1,13 @@
--- The ten words of five rounds: as the first two of those rounds give them, and as the ten words that stand twenty before do.
+-- Inner: the ten words of five rounds: as the first two of those rounds give them, and as the ten words that stand twenty before do.
 -- Two rounds after a round, V is its U and U is its V updated; ten rounds after it, V is its U updated twice and U is its V updated three times.
 use mathlib.Core.List.{List, [], _∷_, _++_}
 use Prim.Native.Nat.{ℕ, zero, suc}
 use lib.ListN.{getD, take, drop}
 use Rattle.published.specs.Bytes.{fromBytes}
-use Rattle.primitives.specs.Arranged.{arranged}
+use Rattle.round_words.specs.Arranged.{arranged}
 use Rattle.key_schedule.specs.declared.Four.{Four}
 use Rattle.key_schedule.specs.declared.Ten.{Ten}
-use Rattle.key_schedule.specs.Update.{updated, later}
+use Rattle.key_schedule.specs.InnerUpdate.{updated, later}
 
 -- V and U of the first two rounds
 unfoldable pub firstWords : List ℕ → Four
