@@ -2,3 +2,12 @@
 pub mod Looking
 pub mod Searching
 pub mod UnderWay
+pub mod Walk
+pub mod Again
+pub mod Plain
+pub mod Calling
+pub mod Records
+pub mod Lending
+pub mod Parts
+pub mod Steps
+pub mod Looping
