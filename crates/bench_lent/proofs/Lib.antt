@@ -3,6 +3,7 @@ pub mod Looking
 pub mod Searching
 pub mod UnderWay
 pub mod Effects
+pub mod Answering
 pub mod Walk
 pub mod Again
 pub mod Plain
