@@ -4,6 +4,7 @@ pub mod Searching
 pub mod UnderWay
 pub mod Effects
 pub mod Answering
+pub mod OneOutcome
 pub mod Walk
 pub mod Again
 pub mod Plain
