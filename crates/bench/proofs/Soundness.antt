@@ -35,17 +35,18 @@ unfolding allSound
 all-of [] f = refl
 all-of (l ∷ ls) f = together (soundLane l) (allSound ls) (f 0 (omega arith)) (all-of ls (λ i h. f (suc i) (omega arith)))
 
+-- the records from place i on are sound where the one there is, and those after it
+pub all-from : (ls : List Lane) (i : ℕ) → i < length ls → allSound (drop i ls) ≡ soundLane (laneAt ls i) && allSound (drop (i + 1) ls)
+unfolding allSound
+all-from ls i h = ap allSound (drop-cons ls i _ h) ∙ ap (λ (j : ℕ). soundLane (laneAt ls i) && allSound (drop j ls)) (sym (add-one i))
+
 -- looking at the records one by one, those before place i being sound
 module _ (ls : List Lane) (i : ℕ) (so-far : allSound (drop i ls) ≡ allSound ls) where
-  from : i < length ls → allSound (drop i ls) ≡ soundLane (laneAt ls i) && allSound (drop (suc i) ls)
-  unfolding allSound
-  from h = ap allSound (drop-cons ls i _ h)
-
   pub not-all : i < length ls → soundLane (laneAt ls i) ≡ false → false ≡ allSound ls
-  not-all h e = sym (from h ∙ ap (λ (t : Bool). t && allSound (drop (suc i) ls)) e) ∙ so-far
+  not-all h e = sym (all-from ls i h ∙ ap (λ (t : Bool). t && allSound (drop (i + 1) ls)) e) ∙ so-far
 
   pub one-more : i < length ls → soundLane (laneAt ls i) ≡ true → allSound (drop (i + 1) ls) ≡ allSound ls
-  one-more h e = ap (λ (j : ℕ). allSound (drop j ls)) (add-one i) ∙ sym (from h ∙ ap (λ (t : Bool). t && allSound (drop (suc i) ls)) e) ∙ so-far
+  one-more h e = sym (all-from ls i h ∙ ap (λ (t : Bool). t && allSound (drop (i + 1) ls)) e) ∙ so-far
 
   pub all-seen : length ls ≤ i → true ≡ allSound ls
   unfolding allSound

@@ -32,7 +32,7 @@ use denote.Triple.Entry.{Args, Vals, Res, alive}
 use denote.Triple.Spec.{Spec, Back, tripleOf, Meets}
 use denote.Triple.Statement.{Contract, Triple}
 use denote.Triple.Table.{entered, cited}
-use Rattle.bench_lent.proofs.Through.{from-at}
+use Rattle.bench_lent.proofs.Steps.{from-at}
 
 module _ {M : Type 1} (𝓤 : URA M) (H : Heap 𝓤) (A : Atoms 𝓤) (S : Signature) (c : Spec 𝓤 S) where
   abbrev whole : Contract 𝓤

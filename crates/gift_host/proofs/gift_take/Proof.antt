@@ -18,8 +18,8 @@ use denote.Plain.{uint-vals, uint-tells, uint-lawful}
 use denote.Slice.{slice-vals, mut-slice-tells}
 use denote.Triple.Spec.{Spec, Meets, tripleOf}
 use denote.Triple.Statement.{Contract, Triple}
-use Rattle.bench_lent.proofs.Rows.{R}
-use Rattle.bench_lent.proofs.Through.{relent}
+use Rattle.bench_lent.proofs.Lending.{R}
+use Rattle.bench_lent.proofs.Steps.{relent}
 use Rattle.bench_lent.proofs.Walk.{allocated, freed}
 use Rattle.bench_lent.proofs.take as take
 use Rattle.bench_lent.proofs.take.Symbol as take-def
