@@ -1,5 +1,4 @@
--- What each call answers: its number, the turns told, and the bench that it leaves; of a take, the bytes too. A refusal gives back what came in.
-use mathlib.Core.Path.{_≡_}
+-- What each call promises to answer: its number, the turns told, and the bench that it leaves; of a take, the bytes too. A refusal gives back what came in.
 use mathlib.Core.Bool.{Bool, true, _&&_}
 use mathlib.Core.List.{List, [], _∷_}
 use Prim.Native.Nat.{ℕ, _-_, min}
@@ -52,16 +51,3 @@ takenBytes b lane out = ifDone (takeOf b lane out .code) (yielded (laneAt (b .la
 
 unfoldable pub closeOf : Bench → (lane : ℕ) → Answer
 closeOf b lane = answered (closeCode (soundBench b) lane) 0 (put b lane (idled (laneAt (b .lanes) lane))) b
-
--- The promises of the four calls: the answer r, and of a take what the lent buffer holds at exit, e.
-abbrev pub Opens : Bench → (lane direction : ℕ) (key block : List ℕ) → Answer → Type 0
-Opens b lane direction key block r = r ≡ openOf b lane direction key block
-
-abbrev pub MakesTurns : Bench → (asked : ℕ) → Answer → Type 0
-MakesTurns b asked r = r ≡ turnOf b asked
-
-abbrev pub Takes : Bench → (lane : ℕ) (out : List ℕ) → Answer → List ℕ → Type 0
-Takes b lane out r e = (r ≡ takeOf b lane out) × (e ≡ takenBytes b lane out)
-
-abbrev pub Closes : Bench → (lane : ℕ) → Answer → Type 0
-Closes b lane r = r ≡ closeOf b lane

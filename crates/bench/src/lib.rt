@@ -20,7 +20,7 @@ ghost use Prim.Native.Nat.{_<_};
 ghost use lib.ListN.{length};
 ghost use Rattle.lane.specs.Record.{idled};
 ghost use Rattle.bench.specs.Turning.{laneCount, laneAt, after, seek, chosen, turned, turnedBy, servedBy};
-ghost use Rattle.bench.specs.Calls.{freshBench, allSound, soundBench, put, Opens, MakesTurns, Takes, Closes};
+ghost use Rattle.bench.specs.Calls.{freshBench, allSound, soundBench, put, openOf, turnOf, takeOf, takenBytes, closeOf};
 
 // How many lanes a bench has, and the last of them.
 pub const LANES: usize = 4;
@@ -188,7 +188,7 @@ pub fn fresh() -> Bench
 }
 
 pub fn open_lane(b: Bench, lane: u32, direction: u32, key: &[u8], block: &[u8]) -> Answer
-    ensures { λ r. ⌜ Opens b lane direction (now (key .entry)) (now (block .entry)) r ⌝ }
+    ensures { λ r. ⌜ r ≡ openOf b lane direction (now (key .entry)) (now (block .entry)) ⌝ }
 {
     let code = open_code(
         sound(b),
@@ -214,7 +214,7 @@ pub fn open_lane(b: Bench, lane: u32, direction: u32, key: &[u8], block: &[u8]) 
 }
 
 pub fn turn(b: Bench, asked: u32) -> Answer
-    ensures { λ r. ⌜ MakesTurns b asked r ⌝ }
+    ensures { λ r. ⌜ r ≡ turnOf b asked ⌝ }
 {
     let code = turn_code(sound(b), asked);
     if code != DONE {
@@ -234,7 +234,7 @@ pub fn turn(b: Bench, asked: u32) -> Answer
 }
 
 pub fn take(b: Bench, lane: u32, out: &mut [u8]) -> Answer
-    ensures { λ r. ⌜ Takes b lane (now (out .entry)) r (now (out .exit)) ⌝ }
+    ensures { λ r. ⌜ (r ≡ takeOf b lane (now (out .entry))) × (now (out .exit) ≡ takenBytes b lane (now (out .entry))) ⌝ }
 {
     let code = take_code(sound(b), lane, phase_at(b, lane), out.len());
     if code != DONE {
@@ -256,7 +256,7 @@ pub fn take(b: Bench, lane: u32, out: &mut [u8]) -> Answer
 }
 
 pub fn close(b: Bench, lane: u32) -> Answer
-    ensures { λ r. ⌜ Closes b lane r ⌝ }
+    ensures { λ r. ⌜ r ≡ closeOf b lane ⌝ }
 {
     let code = close_code(sound(b), lane);
     if code != DONE {
