@@ -27,6 +27,10 @@ fn wide(b: u8) -> u32 {
     b as u32
 }
 
+fn wide_count(b: u8) -> u16 {
+    b as u16
+}
+
 pub(crate) fn word_at(s: &[u8], i: usize) -> u32
     requires { ⌜ i < 64 ⌝ }
 {
@@ -118,7 +122,7 @@ fn put_lane(l: Lane, i: usize, r: &[u8], pool: &[u8]) -> Lane
     Lane {
         phase: byte_at(r, 18 + i),
         direction: byte_at(r, 22 + i),
-        count: byte_at(r, 26 + i),
+        count: wide_count(byte_at(r, 26 + i)),
         words,
         state,
     }
@@ -157,7 +161,7 @@ fn lane_agrees(l: Lane, i: usize, r: &[u8]) -> bool
     if l.direction != byte_at(r, 22 + i) {
         return false;
     }
-    l.count == byte_at(r, 26 + i)
+    l.count == wide_count(byte_at(r, 26 + i))
 }
 
 fn lanes_agree(lanes: [Lane; 4], r: &[u8]) -> bool {
