@@ -11,13 +11,13 @@ use Rattle.bench.specs.declared.Bench.{Bench}
 use Rattle.bench.specs.declared.Answer.{Answer}
 use Rattle.bench.specs.Turning.{laneCount, laneAt}
 use Rattle.bench.specs.Orders.{openCode, takeCode, closeCode}
-use Rattle.bench.specs.Calls.{put, openOf, takeOf, closeOf}
+use Rattle.bench.specs.Calls.{put}
 use Rattle.bench.proofs.Passing.{open-passed, take-passed, close-passed}
 use Rattle.bench.proofs.Soundness.{is-sound}
 use Rattle.bench.proofs.Answered.{answer, open-refused, open-done, take-refused, take-done, close-refused, close-done}
 use Rattle.bench_lent.specs.declared.Seen.{Seen}
-use Rattle.bench_lent.specs.Lent.{benchOf, renewed, Leaves, Opens, Takes, Closes}
-use Rattle.bench_lent.specs.Loops.{Sees}
+use Rattle.bench_lent.specs.Lent.{benchOf, Leaves, Opens, Takes, Closes}
+use Rattle.bench_lent.specs.Inner.{Sees, renewed}
 use Rattle.bench_lent.proofs.Effects.{idled-renewed}
 
 -- of records that are not sound a number does not depend on the phase

@@ -11,7 +11,8 @@ use Rattle.lane.proofs.Records.{next}
 use Rattle.bench.specs.declared.Bench.{Bench}
 use Rattle.bench.specs.Turning.{laneCount, laneAt, chosen, turned}
 use Rattle.bench.proofs.Made.{turned-at, turned-none, chosen-none}
-use Rattle.bench_lent.specs.Lent.{benchOf, renewed}
+use Rattle.bench_lent.specs.Lent.{benchOf}
+use Rattle.bench_lent.specs.Inner.{renewed}
 
 served-renewed : (l : Lane) → renewed l (served l) ≡ served l
 unfolding served

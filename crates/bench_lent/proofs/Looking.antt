@@ -2,7 +2,7 @@
 use mathlib.Core.Path.{_≡_, refl, sym, ap, _∙_}
 use mathlib.Core.Bool.{Bool, true, false, cond, _&&_, false≢true}
 use mathlib.Core.List.{List}
-use Prim.Native.Nat.{ℕ, _+_, _≤_, _<_}
+use Prim.Native.Nat.{ℕ, _≤_, _<_}
 use native.Mathlib.Decide.{ℕ-discrete, decLt}
 use native.Mathlib.Omega.{arith}
 use lib.Dec.{eqb, ltb}
@@ -10,13 +10,13 @@ use lib.ListN.{length, drop, drop-of-length-le, List·getD-eq-default}
 use borrow.Author.Tests.{eqb-true, ltb-true, eq-eqb, lt-ltb, ne-eqb}
 use Rattle.bits.proofs.Truth.{both}
 use Rattle.lane.specs.declared.Lane.{Lane}
-use Rattle.lane.specs.Record.{idle, soundLane}
+use Rattle.lane.specs.Record.{idle}
 use Rattle.bench.specs.Turning.{laneCount, laneAt}
 use Rattle.bench.specs.Calls.{allSound, soundBench}
 use Rattle.bench.proofs.Soundness.{all-from}
 use Rattle.bench_lent.specs.declared.Seen.{Seen}
 use Rattle.bench_lent.specs.Lent.{benchOf}
-use Rattle.bench_lent.specs.Loops.{Starts, Notes, Sees}
+use Rattle.bench_lent.specs.Inner.{Starts, Notes, Sees}
 
 and-assoc : (a b c : Bool) → (a && b) && c ≡ a && (b && c)
 and-assoc true b c = refl

@@ -1,13 +1,13 @@
 -- The parts that the calls over lent records are made of: what each asks, and what it promises.
 use mathlib.Core.Path.{_≡_}
-use mathlib.Core.List.{List, [], _∷_}
+use mathlib.Core.List.{[], _∷_}
 use Prim.Native.Nat.{_+_, _<_, _^_}
 use lib.ListN.{length, set}
 use Rattle.lane.specs.Record.{served, idled}
 use Rattle.bench.specs.Turning.{laneCount, laneAt, after, seek, chosen, turned}
 use Rattle.bench.specs.Orders.{openCode, takeCode, closeCode}
-use Rattle.bench_lent.specs.Lent.{benchOf, renewed, Serves, Closes}
-use Rattle.bench_lent.specs.Loops.{Starts, Notes, Sees, Passes, Begins, Goes}
+use Rattle.bench_lent.specs.Lent.{benchOf, Serves, Closes}
+use Rattle.bench_lent.specs.Inner.{Starts, Notes, Sees, Passes, Begins, Goes, renewed}
 use Rattle.bench_lent.proofs.Plain.{truth, nothing}
 use Rattle.bench_lent.proofs.Records.{byte, word, size, lane, seen, place, turns, run}
 use Rattle.bench_lent.proofs.Calling.{Function, freely, that}

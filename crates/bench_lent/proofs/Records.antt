@@ -3,9 +3,9 @@ use mathlib.Core.List.{List, [], _∷_}
 use mir.Syntax.{w8, w32, w64}
 use mir.Val.{Val}
 use Rattle.lane.specs.declared.Lane.{Lane}
-use Rattle.bench.specs.Turning.{laneAt}
 use Rattle.lane.proofs.Lane as L
 use Rattle.lane.proofs.Lane.Laws as L′
+use Rattle.bench.specs.Turning.{laneAt}
 use Rattle.bench_lent.proofs.Seen as S
 use Rattle.bench_lent.proofs.Seen.Laws as S′
 use Rattle.bench_lent.proofs.Place as P

@@ -1,5 +1,5 @@
 -- A search among the lent records for a running lane: what is known of it as far as it has come, and at its end.
-use mathlib.Core.Path.{_≡_, refl, sym, ap, _∙_}
+use mathlib.Core.Path.{_≡_, sym, _∙_}
 use mathlib.Core.Bool.{Bool, true, false, cond}
 use mathlib.Core.List.{List}
 use Prim.Native.Nat.{ℕ, _-_, _≤_, _<_}
@@ -12,7 +12,7 @@ use Rattle.lane.specs.Record.{running}
 use Rattle.bench.specs.Turning.{laneCount, laneAt, after, seek}
 use Rattle.bench.proofs.Seeking.{some-lane, after-lt, seek-here, seek-on, seek-over}
 use Rattle.bench_lent.specs.declared.Place.{Place}
-use Rattle.bench_lent.specs.Loops.{Passes}
+use Rattle.bench_lent.specs.Inner.{Passes}
 
 module _ (ls : List Lane) (from : ℕ) where
   -- under way: the lanes that are left tell it, as none passed runs; or over

@@ -23,7 +23,7 @@ use Rattle.bench.proofs.Answered.{turn-refused, turn-done}
 use Rattle.bench_lent.specs.declared.Turns.{Turns}
 use Rattle.bench_lent.specs.declared.Run.{Run}
 use Rattle.bench_lent.specs.Lent.{benchOf, tells, Serves}
-use Rattle.bench_lent.specs.Loops.{Begins, Goes}
+use Rattle.bench_lent.specs.Inner.{Begins, Goes}
 
 module _ (ls : List Lane) (last asked : ℕ) where
   abbrev b : Bench

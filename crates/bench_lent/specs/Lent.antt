@@ -12,10 +12,6 @@ use Rattle.bench_lent.specs.declared.Turns.{Turns}
 abbrev pub benchOf : List Lane → ℕ → Bench
 benchOf records last = record { lanes = records; last = last }
 
--- a record with everything of another but its round words, which stay
-abbrev pub renewed : Lane → Lane → Lane
-renewed old new = record { phase = new .phase; direction = new .direction; count = new .count; words = old .words; state = new .state }
-
 -- the number r and the records e afterwards are those of the answer a
 abbrev pub Leaves : Answer → ℕ → List Lane → Type 0
 Leaves a r e = (r ≡ a .code) × (e ≡ a .bench .lanes)

@@ -19,8 +19,8 @@ ghost use mathlib.Core.Path.{_≡_};
 ghost use Prim.Native.Nat.{_+_, _<_, _^_};
 ghost use lib.ListN.{length, set};
 ghost use Rattle.bench.specs.Turning.{laneCount, laneAt, seek, chosen, turned};
-ghost use Rattle.bench_lent.specs.Lent.{benchOf, renewed, Opens, Serves, Takes, Closes};
-ghost use Rattle.bench_lent.specs.Loops.{Starts, Notes, Sees, Passes, Begins, Goes};
+ghost use Rattle.bench_lent.specs.Lent.{benchOf, Opens, Serves, Takes, Closes};
+ghost use Rattle.bench_lent.specs.Inner.{Starts, Notes, Sees, Passes, Begins, Goes, renewed};
 
 // What a call for turns tells: its number, the turns made, and the lane last served.
 #[repr(C)]

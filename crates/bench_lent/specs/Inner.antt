@@ -1,4 +1,4 @@
--- What the loops over lent records carry, which is numbers alone, and what one step makes of it.
+-- Inner: what the loops over lent records carry, which is numbers alone, and what one step makes of it; and what of a record is stored again.
 use mathlib.Core.Path.{_≡_}
 use mathlib.Core.Bool.{Bool, true, cond, _&&_}
 use mathlib.Core.List.{List}
@@ -10,7 +10,6 @@ use Rattle.lane.specs.Record.{idle, running, soundLane}
 use Rattle.bench.specs.Turning.{laneCount, laneAt, after}
 use Rattle.bench.specs.Orders.{turnCode}
 use Rattle.bench.specs.Calls.{soundBench}
-use Rattle.bench_lent.specs.declared.Turns.{Turns}
 use Rattle.bench_lent.specs.declared.Seen.{Seen}
 use Rattle.bench_lent.specs.declared.Place.{Place}
 use Rattle.bench_lent.specs.declared.Run.{Run}
@@ -45,3 +44,9 @@ abbrev pub Goes : Run → (n : ℕ) → Run → Type 0
 Goes s n r =
     (r .told ≡ cond (ltb n laneCount) (record { code = s .told .code; made = s .told .made + 1; last = n }) (s .told))
     × (r .left ≡ cond (ltb n laneCount) (s .left - 1) 0)
+
+-- ---- a record stored again
+
+-- everything of the new one but the round words, which stay
+abbrev pub renewed : Lane → Lane → Lane
+renewed old new = record { phase = new .phase; direction = new .direction; count = new .count; words = old .words; state = new .state }
