@@ -2,7 +2,7 @@
  *
  * Every function is proved to answer as said here for all lengths, numbers, bytes and records. There is nothing to set up
  * or tear down, and nothing is kept between calls: all memory is the host's, and is lent for the length of one call. Calls
- * on different memory may run at the same time. The library takes no heap and some ten KiB of stack, and calls nothing
+ * on different memory may run at the same time. The library takes no heap and some one KiB of stack, and calls nothing
  * but memcpy and memset.
  *
  * A call answers 0 (GIFT_DONE) or the number of a refusal. Refusals are tried in the order given with each function, and
@@ -15,7 +15,10 @@
  *   - two buffers of one call do not overlap, unless both are const.
  * A wrong length, number or record is no such fault: it is refused.
  *
- * Where the compiler has no headers of its own, declare uint8_t, uint32_t and size_t and define GIFT_HOST_NO_INCLUDES first.
+ * The library and this header have an edition, a number that rises whenever a record, an argument or a count changes:
+ * a host that finds another one linked than it was compiled for must not call anything else.
+ *
+ * Where the compiler has no headers of its own, declare uint8_t, uint16_t, uint32_t and size_t and define GIFT_HOST_NO_INCLUDES first.
  */
 #ifndef GIFT_HOST_H
 #define GIFT_HOST_H
@@ -28,6 +31,11 @@
 #ifdef __cplusplus
 extern "C" {
 #endif
+
+#define GIFT_HOST_EDITION 1 /* of this header */
+
+/* The edition of the library that is linked. */
+uint32_t gift_host_edition(void);
 
 #define GIFT_BLOCK_SIZE 16 /* bytes of a block */
 #define GIFT_KEY_SIZE 16   /* bytes of a key */
@@ -94,11 +102,11 @@ typedef struct gift_state {
     uint32_t s0, s1, s2, s3;
 } gift_state;
 
-/* One lane: 340 bytes, aligned to 4. The byte at 3 is padding and no part of the record: any call may change it. */
+/* One lane: 340 bytes, aligned to 4, none of them padding. */
 typedef struct gift_lane {
     uint8_t phase;              /* at 0: GIFT_IDLE, GIFT_RUNNING or GIFT_FINISHED */
     uint8_t direction;          /* at 1: GIFT_ENCRYPT or GIFT_DECRYPT */
-    uint8_t count;              /* at 2: its own turns since it was opened */
+    uint16_t count;             /* at 2: its own turns since it was opened */
     uint32_t words[GIFT_WORDS]; /* at 4: its round words */
     gift_state state;           /* at 324: its block, as far as it has come */
 } gift_lane;

@@ -6,14 +6,14 @@
 #include "model.h"
 
 #define CALLS 100000
-#define RECORDS 6 /* of which four are a bench */
+#define RECORDS (LANES + 2) /* of which the first are a bench */
 
 /* The header's names are document 01's numbers. */
 _Static_assert(GIFT_DONE == 0 && GIFT_BAD_KEY_LENGTH == 1 && GIFT_BAD_BLOCK_LENGTH == 2 && GIFT_BAD_OUTPUT_LENGTH == 3, "0 to 3");
 _Static_assert(GIFT_BAD_WORD_COUNT == 4 && GIFT_BAD_LANE == 5 && GIFT_LANE_NOT_IDLE == 6 && GIFT_LANE_NOT_FINISHED == 7, "4 to 7");
 _Static_assert(GIFT_TOO_MANY_TURNS == 8 && GIFT_BAD_DIRECTION == 9 && GIFT_BAD_BENCH == 10, "8 to 10");
 _Static_assert(GIFT_IDLE == 0 && GIFT_RUNNING == 1 && GIFT_FINISHED == 2 && GIFT_ENCRYPT == 0 && GIFT_DECRYPT == 1, "phases and directions");
-_Static_assert(GIFT_BLOCK_SIZE == 16 && GIFT_KEY_SIZE == 16 && GIFT_WORDS == 80 && GIFT_LANES == 4 && GIFT_FRESH_LAST == 3, "sizes");
+_Static_assert(GIFT_BLOCK_SIZE == 16 && GIFT_KEY_SIZE == 16 && GIFT_WORDS == 80 && GIFT_LANES == LANES && GIFT_FRESH_LAST == LANES - 1, "sizes");
 _Static_assert(GIFT_MOST_TURNS == 1024 && GIFT_TURNS_OF_A_LANE == 8, "turns");
 
 /* ---- numbers at random: splitmix64 ---- */
@@ -219,22 +219,17 @@ static void many(unsigned direction)
 
 /* ---- the bench ---- */
 
-static gift_lane records[RECORDS]; /* as the model has them */
-static uint32_t served = 3;        /* the lane last served */
-static int opened[4];              /* by gift_open_lane, and not a record of the host's making; */
-static uint8_t promised[4][16];    /* then this is what the lane must yield */
+static gift_lane records[RECORDS];  /* as the model has them */
+static uint32_t served = LANES - 1; /* the lane last served */
+static int opened[LANES];           /* by gift_open_lane, and not a record of the host's making; */
+static uint8_t promised[LANES][16]; /* then this is what the lane must yield */
 static unsigned made_by_host, unsound, slices, lasts, turns_made, yielded;
 
 static room benches;
 
-#define PADDING 3 /* the byte of a record that is nobody's */
-
 static void store_records(uint8_t *to)
 {
-    for (unsigned i = 0; i < RECORDS; i++, to += sizeof(gift_lane)) {
-        memcpy(to, &records[i], PADDING);
-        memcpy(to + PADDING + 1, (uint8_t *)&records[i] + PADDING + 1, sizeof(gift_lane) - PADDING - 1);
-    }
+    memcpy(to, records, sizeof records);
 }
 
 /* All the records lie there, and so many of them are lent: those behind a short slice must not change either. */
@@ -247,14 +242,6 @@ static void lend_bench(size_t lanes_len)
     benches.size = lanes_len * sizeof(gift_lane);
 }
 
-static void pass_over_padding(void)
-{
-    for (size_t i = 0; i < benches.length; i++) {
-        size_t at = benches.from + i * sizeof(gift_lane) + PADDING;
-        benches.memory[at] = benches.expected[at] = 0;
-    }
-}
-
 /* A sound record such as a host may make: any words on any state. */
 static gift_lane some_record(void)
 {
@@ -264,28 +251,29 @@ static gift_lane some_record(void)
     l.state = (gift_state){(uint32_t)next(), (uint32_t)next(), (uint32_t)next(), (uint32_t)next()};
     l.phase = (uint8_t)below(3);
     l.direction = (uint8_t)below(2);
-    l.count = (uint8_t)(l.phase == 0 ? 0 : l.phase == 1 ? below(8) : 8);
+    l.count = (uint16_t)(l.phase == 0 ? 0 : l.phase == 1 ? below(8) : 8);
     return l;
 }
 
 static void spoil(gift_lane *l)
 {
-    static const uint8_t off[][2] = {
-        {0, 1}, {0, 8}, {0, 255}, {1, 8}, {1, 9}, {1, 255}, {2, 0}, {2, 7}, {2, 9}, {2, 255}, {3, 0}, {3, 8}, {255, 0}, {255, 8},
+    static const uint16_t off[][2] = {
+        {0, 1}, {0, 8}, {0, 255}, {0, 256}, {0, 65280}, {1, 8}, {1, 9}, {1, 256}, {1, 263}, {1, 65535}, {2, 0}, {2, 7}, {2, 9}, {2, 264}, {2, 2048}, {2, 65535},
+        {3, 0}, {3, 8}, {255, 0}, {255, 8},
     };
     static const uint8_t directions[] = {2, 3, 128, 255};
     if (below(4) == 0) {
         l->direction = directions[below(sizeof directions)];
     } else {
         uint32_t n = below(sizeof off / sizeof *off);
-        l->phase = off[n][0];
+        l->phase = (uint8_t)off[n][0];
         l->count = off[n][1];
     }
 }
 
 static void open_lane(size_t lanes_len, uint32_t last)
 {
-    uint32_t number, must, lane = up_to(3), direction = up_to(1);
+    uint32_t number, must, lane = up_to(LANES - 1), direction = up_to(1);
     lend(&keys, "key", length(16), 1);
     lend(&blocks, "block", length(16), 1);
     must = open_number(records, lanes_len, last, lane, direction, keys.length, blocks.length);
@@ -296,7 +284,6 @@ static void open_lane(size_t lanes_len, uint32_t last)
     }
     store_records(expected(&benches));
     number = gift_open_lane(part(&benches), lanes_len, last, lane, direction, part(&keys), keys.length, part(&blocks), blocks.length);
-    pass_over_padding();
     hold(OPEN_LANE, number, must);
 }
 
@@ -312,7 +299,6 @@ static void turn(size_t lanes_len, uint32_t last)
     }
     store_records(expected(&benches));
     told = gift_turn(part(&benches), lanes_len, last, asked);
-    pass_over_padding();
     hold(TURN, told.code, must);
     if ((told.made != made || told.last != after) && differs(TURN))
         printf("of %u turns asked %u are made, last served %u, and must be %u, %u\n", asked, told.made, told.last, made, after);
@@ -320,14 +306,13 @@ static void turn(size_t lanes_len, uint32_t last)
 
 static void take(size_t lanes_len, uint32_t last)
 {
-    uint32_t number, must, lane = up_to(3);
+    uint32_t number, must, lane = up_to(LANES - 1);
     lend(&outputs, "take buffer", length(16), 1);
     must = take_number(records, lanes_len, last, lane, outputs.length);
     if (must == 0)
         model_take(&records[lane], expected(&outputs));
     store_records(expected(&benches));
     number = gift_take(part(&benches), lanes_len, last, lane, part(&outputs), outputs.length);
-    pass_over_padding();
     hold(TAKE, number, must);
     if (must == 0 && opened[lane]) {
         yielded++;
@@ -338,13 +323,12 @@ static void take(size_t lanes_len, uint32_t last)
 
 static void close_lane(size_t lanes_len, uint32_t last)
 {
-    uint32_t number, must, lane = up_to(3);
+    uint32_t number, must, lane = up_to(LANES - 1);
     must = lane_number(records, lanes_len, last, lane);
     if (must == 0)
         model_close(&records[lane]);
     store_records(expected(&benches));
     number = gift_close(part(&benches), lanes_len, last, lane);
-    pass_over_padding();
     hold(CLOSE, number, must);
 }
 
@@ -355,35 +339,35 @@ static uint32_t mood; /* which call is made most, for some calls: so benches get
 static void on_the_bench(void)
 {
     gift_lane right = {0}, *damaged = NULL;
-    size_t lanes_len = 4;
+    size_t lanes_len = LANES;
     uint32_t kind, last;
 
     if (below(6) == 0)
         mood = below(3);
     kind = below(4) == 0 ? below(4) : mood;
     if (below(50) == 0) {
-        uint32_t lane = below(4);
+        uint32_t lane = below(LANES);
         records[lane] = some_record();
         opened[lane] = 0;
         made_by_host++;
     }
     if (below(50) == 0)
-        served = below(4);
+        served = below(LANES);
 
     last = served;
     if (bad() && below(2) == 0) {
-        damaged = &records[below(4)];
+        damaged = &records[below(LANES)];
         right = *damaged;
         spoil(damaged);
         unsound++;
     }
     if (bad() && below(4) == 0) {
-        static const size_t others[] = {0, 1, 2, 3, 5, 6};
+        static const size_t others[] = {0, 1, LANES / 2, LANES - 1, LANES + 1, LANES + 2};
         lanes_len = others[below(6)];
         slices++;
     }
     if (bad() && below(4) == 0) {
-        last = number_above(3);
+        last = number_above(LANES - 1);
         lasts++;
     }
 
@@ -400,7 +384,11 @@ static void on_the_bench(void)
 
 int main(void)
 {
-    for (unsigned i = 4; i < RECORDS; i++)
+    if (gift_host_edition() != GIFT_HOST_EDITION) {
+        printf("the library is of edition %u, and the header of %d\n", gift_host_edition(), GIFT_HOST_EDITION);
+        return 1;
+    }
+    for (unsigned i = LANES; i < RECORDS; i++)
         records[i] = some_record();
     while (calls < CALLS) {
         uint32_t kind = below(20);
@@ -424,7 +412,7 @@ int main(void)
     }
     printf("\n");
     printf("%u turns were made; %u opened lanes yielded what GIFT-128 gives\n", turns_made, yielded);
-    printf("%u sound records were the host's; %u calls met an unsound one, %u a slice not of four, %u a last served number above 3\n", made_by_host,
+    printf("%u sound records were the host's; %u calls met an unsound one, %u a slice of another length, %u a last served number that is no lane's\n", made_by_host,
            unsound, slices, lasts);
     printf("%u calls, %u differences\n", calls, differences);
     return differences > 0;

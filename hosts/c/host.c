@@ -97,6 +97,10 @@ int main(void)
 {
     uint32_t guest, slice, made = 0;
 
+    if (gift_host_edition() != GIFT_HOST_EDITION) {
+        printf("another edition of the library is linked: %u\n", gift_host_edition());
+        return 1;
+    }
     for (guest = 0; guest < GUESTS; guest++) {
         decrypt_setting(guest, key, blocks[guest]);
         waiting++;

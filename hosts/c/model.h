@@ -215,6 +215,8 @@ static bits unpacked(gift_state state)
 
 /* ---- the bench: what each call does where nothing refuses it ---- */
 
+#define LANES 4 /* as document 01 has it */
+
 static void model_open(gift_lane *lane, uint32_t direction, const uint8_t *key, const uint8_t *block)
 {
     lane->phase = 1;
@@ -240,11 +242,11 @@ static uint32_t model_turn(gift_lane *lanes, uint32_t *last, uint32_t asked)
 {
     for (uint32_t made = 0; made < asked; made++) {
         uint32_t step = 1;
-        while (step <= 4 && lanes[(*last + step) % 4].phase != 1)
+        while (step <= LANES && lanes[(*last + step) % LANES].phase != 1)
             step++;
-        if (step > 4)
+        if (step > LANES)
             return made;
-        *last = (*last + step) % 4;
+        *last = (*last + step) % LANES;
         model_serve(&lanes[*last]);
     }
     return asked;
@@ -253,7 +255,8 @@ static uint32_t model_turn(gift_lane *lanes, uint32_t *last, uint32_t asked)
 /* round words stay */
 static void model_close(gift_lane *lane)
 {
-    lane->phase = lane->direction = lane->count = 0;
+    lane->phase = lane->direction = 0;
+    lane->count = 0;
     lane->state = (gift_state){0, 0, 0, 0};
 }
 
@@ -299,9 +302,9 @@ static int sound(const gift_lane *lane)
 
 static uint32_t bench_number(const gift_lane *lanes, size_t lanes_len, uint32_t last)
 {
-    if (lanes_len != 4 || last > 3)
+    if (lanes_len != LANES || last >= LANES)
         return 10;
-    for (unsigned i = 0; i < 4; i++)
+    for (unsigned i = 0; i < LANES; i++)
         if (!sound(&lanes[i]))
             return 10;
     return 0;
@@ -310,7 +313,7 @@ static uint32_t bench_number(const gift_lane *lanes, size_t lanes_len, uint32_t 
 static uint32_t lane_number(const gift_lane *lanes, size_t lanes_len, uint32_t last, uint32_t lane)
 {
     uint32_t number = bench_number(lanes, lanes_len, last);
-    return number != 0 ? number : lane > 3 ? 5 : 0;
+    return number != 0 ? number : lane >= LANES ? 5 : 0;
 }
 
 static uint32_t open_number(const gift_lane *lanes, size_t lanes_len, uint32_t last, uint32_t lane, uint32_t direction, size_t key_len,

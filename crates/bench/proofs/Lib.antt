@@ -1,5 +1,6 @@
 -- The laws, for the crates above.
-pub mod Passed
+pub mod Passing
+pub mod Answered
 pub mod Soundness
 pub mod Seeking
 pub mod Made

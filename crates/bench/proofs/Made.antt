@@ -6,13 +6,13 @@ use Prim.Native.Nat.{ℕ, zero, suc, _+_, _≤_, _<_, min}
 use native.Mathlib.Nat.{not-suc-le-zero, le-of-suc-le-suc}
 use native.Mathlib.Omega.{arith}
 use lib.ListN.{length, set}
-use Rattle.bits.proofs.Computed.{cond-true, cond-false}
-use Rattle.lane_record.specs.declared.Lane.{Lane}
-use Rattle.bench.specs.declared.Bench.{Bench}
-use Rattle.lane_record.specs.Record.{running, soundLane, served, lacks}
 use borrow.Author.Tests.{lt-ltb, le-ltb}
+use Rattle.bits.proofs.Computed.{cond-true, cond-false}
+use Rattle.lane.specs.declared.Lane.{Lane}
+use Rattle.lane.specs.Record.{running, soundLane, served, lacks}
+use Rattle.lane.proofs.Records.{served-count, served-lacks, served-sound}
+use Rattle.bench.specs.declared.Bench.{Bench}
 use Rattle.bench.specs.Turning.{laneCount, laneAt, runs, chosen, anyRuns, turned, turnedBy, servedBy, total}
-use Rattle.lane_record.proofs.Records.{served-count, served-lacks, served-sound}
 use Rattle.bench.proofs.Soundness.{Sound, sound-set}
 use Rattle.bench.proofs.Seeking.{runs-phase, chosen-lt, chosen-runs, none-runs}
 

@@ -11,9 +11,9 @@ use native.Mathlib.Omega.{arith}
 use lib.Dec.{leb, ltb, lit<}
 use borrow.Author.Tests.{lt-ltb, le-ltb, le-leb, lt-leb, eq-eqb, ne-eqb, ltb-true, eqb-true}
 use Rattle.bits.proofs.Computed.{cond-true, cond-false}
-use Rattle.lane_record.specs.declared.Lane.{Lane}
+use Rattle.lane.specs.declared.Lane.{Lane}
+use Rattle.lane.specs.Record.{running}
 use Rattle.bench.specs.declared.Bench.{Bench}
-use Rattle.lane_record.specs.Record.{running}
 use Rattle.bench.specs.Turning.{laneCount, laneAt, runs, after, seek, chosen, anyRuns}
 
 -- all that the laws ask of the number of lanes
@@ -125,6 +125,11 @@ seek-runs ls (suc k) i h = go (runs ls i) refl (seek-runs ls k (after i)) h
 -- ---- the lane whose turn it is
 
 module _ (b : Bench) where
+  -- the search that starts after the last served lane finds it
+  pub chosen-is : {i n : ℕ} → i ≡ after (b .last) → n ≡ seek laneCount (b .lanes) i → n ≡ chosen b
+  unfolding chosen
+  chosen-is e f = f ∙ ap (seek laneCount (b .lanes)) e
+
   pub chosen-near : (n : ℕ) → n < laneCount → runs (b .lanes) n ≡ true → Found (b .lanes) n (after (b .last)) (chosen b)
   unfolding chosen
   chosen-near n hn r = seek-finds (b .lanes) n hn r laneCount (after (b .last)) (after-lt (b .last)) (steps-lt _ n (after-lt (b .last)) hn)

@@ -1,7 +1,7 @@
 -- A sound bench, as facts: four records, one of them last served, each of them sound; and what keeps it so.
 use mathlib.Core.Path.{_≡_, refl, sym, ap, _∙_}
 use mathlib.Core.Bool.{Bool, true, false, _&&_}
-use mathlib.Core.List.{List, [], _∷_}
+use mathlib.Core.List.{List, [], _∷_, map}
 use mathlib.Core.Logic.{_≢_}
 use Prim.Native.Nat.{ℕ, zero, suc, _+_, _≤_, _<_}
 use native.Mathlib.Nat.{not-suc-le-zero, le-of-suc-le-suc}
@@ -9,15 +9,15 @@ use native.Mathlib.Numerals.{add-one}
 use native.Mathlib.Decide.{ℕ-discrete}
 use native.Mathlib.Omega.{arith}
 use lib.Dec.{eqb, ltb}
-use lib.ListN.{length, drop, set, length-set, drop-of-length-le}
+use lib.ListN.{length, drop, set, length-map, length-set, drop-of-length-le}
 use lib.Seq.{drop-cons, getD-set-same, getD-set-other}
 use borrow.Author.Tests.{eq-eqb, eqb-true, lt-ltb, ltb-true}
-use Rattle.lane_record.specs.declared.Lane.{Lane}
+use Rattle.bits.proofs.Truth.{both, together}
+use Rattle.lane.specs.declared.Lane.{Lane}
+use Rattle.lane.specs.Record.{soundLane}
 use Rattle.bench.specs.declared.Bench.{Bench}
-use Rattle.lane_record.specs.Record.{soundLane}
 use Rattle.bench.specs.Turning.{laneCount, laneAt}
 use Rattle.bench.specs.Calls.{allSound, soundBench, put}
-use Rattle.bits.proofs.Truth.{both, together}
 
 pub record Sound (b : Bench) : Type 0 where
   pub size : length (b .lanes) ≡ laneCount
@@ -35,17 +35,18 @@ unfolding allSound
 all-of [] f = refl
 all-of (l ∷ ls) f = together (soundLane l) (allSound ls) (f 0 (omega arith)) (all-of ls (λ i h. f (suc i) (omega arith)))
 
+-- the records from place i on are sound where the one there is, and those after it
+pub all-from : (ls : List Lane) (i : ℕ) → i < length ls → allSound (drop i ls) ≡ soundLane (laneAt ls i) && allSound (drop (i + 1) ls)
+unfolding allSound
+all-from ls i h = ap allSound (drop-cons ls i _ h) ∙ ap (λ (j : ℕ). soundLane (laneAt ls i) && allSound (drop j ls)) (sym (add-one i))
+
 -- looking at the records one by one, those before place i being sound
 module _ (ls : List Lane) (i : ℕ) (so-far : allSound (drop i ls) ≡ allSound ls) where
-  from : i < length ls → allSound (drop i ls) ≡ soundLane (laneAt ls i) && allSound (drop (suc i) ls)
-  unfolding allSound
-  from h = ap allSound (drop-cons ls i _ h)
-
   pub not-all : i < length ls → soundLane (laneAt ls i) ≡ false → false ≡ allSound ls
-  not-all h e = sym (from h ∙ ap (λ (t : Bool). t && allSound (drop (suc i) ls)) e) ∙ so-far
+  not-all h e = sym (all-from ls i h ∙ ap (λ (t : Bool). t && allSound (drop (i + 1) ls)) e) ∙ so-far
 
   pub one-more : i < length ls → soundLane (laneAt ls i) ≡ true → allSound (drop (i + 1) ls) ≡ allSound ls
-  one-more h e = ap (λ (j : ℕ). allSound (drop j ls)) (add-one i) ∙ sym (from h ∙ ap (λ (t : Bool). t && allSound (drop (suc i) ls)) e) ∙ so-far
+  one-more h e = sym (all-from ls i h ∙ ap (λ (t : Bool). t && allSound (drop (i + 1) ls)) e) ∙ so-far
 
   pub all-seen : length ls ≤ i → true ≡ allSound ls
   unfolding allSound
@@ -67,6 +68,10 @@ module _ (b : Bench) where
       together _ (allSound (b .lanes))
       (together _ (ltb (b .last) laneCount) (eq-eqb (length (b .lanes)) laneCount (s .size)) (lt-ltb (b .last) laneCount (s .last-lt)))
       (all-of (b .lanes) (λ i h. s .each i (rw (s .size) at h)))
+
+-- an array of records is known to be long enough as what the machine keeps of them
+pub unmapped : (X Y : Type 0) (f : X → Y) (l : List X) (n : ℕ) → length (map f l) ≡ n → length l ≡ n
+unmapped X Y f l n e = sym (length-map l f) ∙ e
 
 -- ---- a list of records with another one at place i
 

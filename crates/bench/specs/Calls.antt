@@ -1,23 +1,20 @@
--- What each call answers: the number in its order, and the bench, turns and bytes that go with it. A refusal gives back what came in.
-use mathlib.Core.Bool.{Bool, true, false, cond, _&&_}
+-- What each call promises to answer: its number, the turns told, and the bench that it leaves; of a take, the bytes too. A refusal gives back what came in.
+use mathlib.Core.Bool.{Bool, true, _&&_}
 use mathlib.Core.List.{List, [], _∷_}
 use Prim.Native.Nat.{ℕ, _-_, min}
-use lib.Dec.{eqb, leb, ltb}
+use lib.Dec.{eqb, ltb}
 use lib.ListN.{length, set, replicate}
-use Rattle.published.specs.Bytes.{toBytes}
-use Rattle.primitives.specs.Packed.{blockOf}
-use Rattle.lane_record.specs.declared.Lane.{Lane}
+use Rattle.answers.specs.Order.{ifDone}
+use Rattle.lane.specs.declared.Lane.{Lane}
+use Rattle.lane.specs.Record.{soundLane, opened, lacks, yielded, idled, freshLane}
 use Rattle.bench.specs.declared.Bench.{Bench}
-use Rattle.bench.specs.declared.Opened.{Opened}
-use Rattle.bench.specs.declared.Turned.{Turned}
-use Rattle.bench.specs.declared.Taken.{Taken}
-use Rattle.bench.specs.declared.Closed.{Closed}
-use Rattle.lane_record.specs.Record.{idle, finished, soundLane, idleWith, opened, lacks}
+use Rattle.bench.specs.declared.Answer.{Answer}
 use Rattle.bench.specs.Turning.{laneCount, laneAt, turnedBy, total}
+use Rattle.bench.specs.Orders.{openCode, turnCode, takeCode, closeCode}
 
 -- a fresh bench: all idle, all zero, the last lane the one last served
 unfoldable pub freshBench : Bench
-freshBench = record { lanes = replicate laneCount (idleWith (replicate 80 0)); last = laneCount - 1 }
+freshBench = record { lanes = replicate laneCount freshLane; last = laneCount - 1 }
 
 unfoldable pub allSound : List Lane → Bool
 allSound [] = true
@@ -27,77 +24,30 @@ allSound (l ∷ ls) = soundLane l && allSound ls
 unfoldable pub soundBench : Bench → Bool
 soundBench b = eqb (length (b .lanes)) laneCount && ltb (b .last) laneCount && allSound (b .lanes)
 
--- the number n unless the test holds, and then what comes next
-abbrev pub unless : Bool → ℕ → ℕ → ℕ
-unless true n next = next
-unless false n next = n
-
--- what a call gives if its number is 0, and what it gives if not
-abbrev pub ifDone {ℓ} : {A : Type ℓ} → ℕ → A → A → A
-ifDone code done refused = cond (eqb code 0) done refused
-
 -- a bench with another record in lane i
 unfoldable pub put : Bench → ℕ → Lane → Bench
 put b i l = record { lanes = set (b .lanes) i l; last = b .last }
 
--- idle as after a take: the round words stay until the next opening
-unfoldable pub idled : Bench → ℕ → Bench
-idled b i = put b i (idleWith (laneAt (b .lanes) i .words))
+-- the answer with this number: the turns and the bench of a call that is done, or else none and the bench as it was
+unfoldable pub answered : (number made : ℕ) (new old : Bench) → Answer
+answered number made new old = record { code = number; made = ifDone number made 0; bench = ifDone number new old }
 
--- Opening: 10, 5, 6, 9, 1, 2.
-unfoldable pub openCode : Bench → ℕ → ℕ → List ℕ → List ℕ → ℕ
-openCode b lane direction key block =
-    unless (soundBench b) 10
-    (unless (ltb lane laneCount) 5
-    (unless (eqb (laneAt (b .lanes) lane .phase) idle) 6
-    (unless (leb direction 1) 9
-    (unless (eqb (length key) 16) 1
-    (unless (eqb (length block) 16) 2
-    0)))))
-
-unfoldable pub openOf : Bench → ℕ → ℕ → List ℕ → List ℕ → Opened
+unfoldable pub openOf : Bench → (lane direction : ℕ) (key block : List ℕ) → Answer
 openOf b lane direction key block =
-    record {
-      code = openCode b lane direction key block;
-      bench = ifDone (openCode b lane direction key block) (put b lane (opened direction key block)) b;
-    }
+    answered (openCode (soundBench b) lane (laneAt (b .lanes) lane .phase) direction (length key) (length block)) 0
+    (put b lane (opened direction key block)) b
 
--- Turns: 10, 8.
-unfoldable pub turnCode : Bench → ℕ → ℕ
-turnCode b asked =
-    unless (soundBench b) 10
-    (unless (leb asked 1024) 8
-    0)
+unfoldable pub turnOf : Bench → (asked : ℕ) → Answer
+turnOf b asked = answered (turnCode (soundBench b) asked) (min asked (total lacks (b .lanes))) (turnedBy asked b) b
 
-unfoldable pub turnOf : Bench → ℕ → Turned
-turnOf b asked =
-    record {
-      code = turnCode b asked;
-      made = ifDone (turnCode b asked) (min asked (total lacks (b .lanes))) 0;
-      bench = ifDone (turnCode b asked) (turnedBy asked b) b;
-    }
+unfoldable pub takeOf : Bench → (lane : ℕ) (out : List ℕ) → Answer
+takeOf b lane out =
+    answered (takeCode (soundBench b) lane (laneAt (b .lanes) lane .phase) (length out)) 0
+    (put b lane (idled (laneAt (b .lanes) lane))) b
 
--- Taking: 10, 5, 7, 2. The bytes are what stands in the lent buffer afterwards.
-unfoldable pub takeCode : Bench → ℕ → List ℕ → ℕ
-takeCode b lane out =
-    unless (soundBench b) 10
-    (unless (ltb lane laneCount) 5
-    (unless (eqb (laneAt (b .lanes) lane .phase) finished) 7
-    (unless (eqb (length out) 16) 2
-    0)))
+-- what stands afterwards in the buffer that was lent for a take
+unfoldable pub takenBytes : Bench → (lane : ℕ) (out : List ℕ) → List ℕ
+takenBytes b lane out = ifDone (takeOf b lane out .code) (yielded (laneAt (b .lanes) lane) out) out
 
-unfoldable pub takeOf : Bench → ℕ → List ℕ → Taken
-takeOf b lane out = record { code = takeCode b lane out; bench = ifDone (takeCode b lane out) (idled b lane) b }
-
-unfoldable pub takenBytes : Bench → ℕ → List ℕ → List ℕ
-takenBytes b lane out = ifDone (takeCode b lane out) (toBytes 16 (blockOf (laneAt (b .lanes) lane .state))) out
-
--- Closing: 10, 5.
-unfoldable pub closeCode : Bench → ℕ → ℕ
-closeCode b lane =
-    unless (soundBench b) 10
-    (unless (ltb lane laneCount) 5
-    0)
-
-unfoldable pub closeOf : Bench → ℕ → Closed
-closeOf b lane = record { code = closeCode b lane; bench = ifDone (closeCode b lane) (idled b lane) b }
+unfoldable pub closeOf : Bench → (lane : ℕ) → Answer
+closeOf b lane = answered (closeCode (soundBench b) lane) 0 (put b lane (idled (laneAt (b .lanes) lane))) b

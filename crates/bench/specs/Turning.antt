@@ -4,9 +4,10 @@ use mathlib.Core.List.{List, [], _∷_}
 use Prim.Native.Nat.{ℕ, zero, suc, _+_}
 use lib.Dec.{eqb, ltb}
 use lib.ListN.{getD, set}
-use Rattle.lane_record.specs.declared.Lane.{Lane}
+use Rattle.packing.specs.Packing.{noWords}
+use Rattle.lane.specs.declared.Lane.{Lane}
+use Rattle.lane.specs.Record.{idle, running, served}
 use Rattle.bench.specs.declared.Bench.{Bench}
-use Rattle.lane_record.specs.Record.{idle, running, noState, served}
 
 -- how many lanes a bench has
 unfoldable pub laneCount : ℕ
@@ -14,7 +15,7 @@ laneCount = 4
 
 -- lane i of a list of records
 abbrev pub laneAt : List Lane → ℕ → Lane
-laneAt ls i = getD ls i (record { phase = idle; direction = 0; count = 0; words = []; state = noState })
+laneAt ls i = getD ls i (record { phase = idle; direction = 0; count = 0; words = []; state = noWords })
 
 unfoldable pub runs : List Lane → ℕ → Bool
 runs ls i = eqb (laneAt ls i .phase) running

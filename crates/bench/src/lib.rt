@@ -1,17 +1,26 @@
-// Four lanes that take turns on one cipher, by value: a call is given a bench and gives back the bench after it, with a number that is 0 if it was done.
-use gift128::Gift128;
-use lane_record::Lane;
-use lane_record::idle_with;
-use lane_record::served;
-use lane_record::sound_lane;
-use packing::packing;
-use packing::unpacking;
+// Lanes that take turns on one cipher, by value: a call is given a bench and gives back the bench after it, with a number that is 0 if it was done.
+pub mod orders;
+
+use answers::DONE;
+use lane::IDLE;
+use lane::Lane;
+use lane::RUNNING;
+use lane::fresh_lane;
+use lane::idled;
+use lane::opened;
+use lane::served;
+use lane::sound_lane;
+use lane::yielded;
+use orders::close_code;
+use orders::open_code;
+use orders::take_code;
+use orders::turn_code;
 ghost use mathlib.Core.Path.{_≡_};
 ghost use Prim.Native.Nat.{_<_};
 ghost use lib.ListN.{length};
-ghost use Rattle.lane_record.specs.Record.{opened};
-ghost use Rattle.bench.specs.Turning.{laneCount, after, seek, chosen, turned, turnedBy, servedBy};
-ghost use Rattle.bench.specs.Calls.{freshBench, allSound, soundBench, put, idled, openOf, turnOf, takeOf, takenBytes, closeOf};
+ghost use Rattle.lane.specs.Record.{idled};
+ghost use Rattle.bench.specs.Turning.{laneCount, laneAt, after, seek, chosen, turned, turnedBy, servedBy};
+ghost use Rattle.bench.specs.Calls.{freshBench, allSound, soundBench, put, openOf, turnOf, takeOf, takenBytes, closeOf};
 
 // How many lanes a bench has, and the last of them.
 pub const LANES: usize = 4;
@@ -25,29 +34,11 @@ pub struct Bench {
     pub last: u32,
 }
 
-// What the four calls give back.
+// What every call gives back: its number, the turns made, and the bench after it. Only turns are made by a call for turns.
 #[repr(C)]
-pub struct Opened {
-    pub code: u32,
-    pub bench: Bench,
-}
-
-#[repr(C)]
-pub struct Turned {
+pub struct Answer {
     pub code: u32,
     pub made: u32,
-    pub bench: Bench,
-}
-
-#[repr(C)]
-pub struct Taken {
-    pub code: u32,
-    pub bench: Bench,
-}
-
-#[repr(C)]
-pub struct Closed {
-    pub code: u32,
     pub bench: Bench,
 }
 
@@ -79,7 +70,7 @@ fn sound(b: Bench) -> bool
 // ---- turns
 
 // The lane after lane i in cyclic order.
-fn after(i: usize) -> usize
+pub fn after(i: usize) -> usize
     ensures { λ r. ⌜ r ≡ after i ⌝ }
 {
     if i < LAST {
@@ -97,7 +88,7 @@ fn seek(lanes: [Lane; LANES], from: usize) -> usize
     let mut left: usize = LANES;
     while 0 < left {
         let l = lanes[i];
-        if l.phase == 1 {
+        if l.phase == RUNNING {
             return i;
         }
         i = after(i);
@@ -149,8 +140,21 @@ fn turns(b: Bench, asked: u32) -> Many
     Many { made, bench }
 }
 
-// ---- records put into lanes
+// ---- a lane by its number
 
+// Its phase; a number that is no lane's has none, and counts as idle.
+fn phase_at(b: Bench, lane: u32) -> u8
+    ensures { λ r. ⌜ r ≡ laneAt (b .lanes) lane .phase ⌝ }
+{
+    let i = lane as usize;
+    if i < LANES {
+        let l = b.lanes[i];
+        return l.phase;
+    }
+    IDLE
+}
+
+// Another record put into it.
 fn put(b: Bench, i: usize, l: Lane) -> Bench
     requires { ⌜ i < laneCount ⌝ }
     ensures { λ r. ⌜ r ≡ put b i l ⌝ }
@@ -160,31 +164,13 @@ fn put(b: Bench, i: usize, l: Lane) -> Bench
     bench
 }
 
-// The round words stay until the next opening.
-fn idled(b: Bench, i: usize) -> Bench
+// The lane idle, as after a take.
+fn idle_lane(b: Bench, i: usize) -> Bench
     requires { ⌜ i < laneCount ⌝ }
-    ensures { λ r. ⌜ r ≡ idled b i ⌝ }
+    ensures { λ r. ⌜ r ≡ put b i (idled (laneAt (b .lanes) i)) ⌝ }
 {
     let l = b.lanes[i];
-    let words = l.words;
-    put(b, i, idle_with(words))
-}
-
-fn opened_lane(direction: u8, key: &[u8], block: &[u8]) -> Lane
-    requires { ⌜ (length (now key) ≡ 16) × (length (now block) ≡ 16) ⌝ }
-    ensures { λ r. ⌜ r ≡ opened direction (now (key .entry)) (now (block .entry)) ⌝ }
-{
-    let made = Gift128::new(key);
-    let cipher = made.cipher;
-    let words = cipher.k;
-    let state = packing(block);
-    Lane {
-        phase: 1,
-        direction,
-        count: 0,
-        words,
-        state,
-    }
+    put(b, i, idled(l))
 }
 
 // ---- the calls
@@ -193,7 +179,7 @@ fn opened_lane(direction: u8, key: &[u8], block: &[u8]) -> Lane
 pub fn fresh() -> Bench
     ensures { λ r. ⌜ r ≡ freshBench ⌝ }
 {
-    let l = idle_with([0u32; 80]);
+    let l = fresh_lane();
     let lanes = [l; LANES];
     Bench {
         lanes,
@@ -201,105 +187,89 @@ pub fn fresh() -> Bench
     }
 }
 
-// Refusals: 10, 5, 6, 9, 1, 2.
-pub fn open_lane(b: Bench, lane: u32, direction: u32, key: &[u8], block: &[u8]) -> Opened
+pub fn open_lane(b: Bench, lane: u32, direction: u32, key: &[u8], block: &[u8]) -> Answer
     ensures { λ r. ⌜ r ≡ openOf b lane direction (now (key .entry)) (now (block .entry)) ⌝ }
 {
-    let i = lane as usize;
-    if !sound(b) {
-        return Opened { code: 10, bench: b };
-    }
-    if LANES <= i {
-        return Opened { code: 5, bench: b };
-    }
-    let l = b.lanes[i];
-    if l.phase != 0 {
-        return Opened { code: 6, bench: b };
-    }
-    if 1 < direction {
-        return Opened { code: 9, bench: b };
-    }
-    if key.len() != 16 {
-        return Opened { code: 1, bench: b };
-    }
-    if block.len() != 16 {
-        return Opened { code: 2, bench: b };
-    }
-    let opened = put(b, i, opened_lane(direction as u8, key, block));
-    Opened {
-        code: 0,
-        bench: opened,
-    }
-}
-
-// Refusals: 10, 8.
-pub fn turn(b: Bench, asked: u32) -> Turned
-    ensures { λ r. ⌜ r ≡ turnOf b asked ⌝ }
-{
-    if !sound(b) {
-        return Turned {
-            code: 10,
+    let code = open_code(
+        sound(b),
+        lane,
+        phase_at(b, lane),
+        direction,
+        key.len(),
+        block.len(),
+    );
+    if code != DONE {
+        return Answer {
+            code,
             made: 0,
             bench: b,
         };
     }
-    if 1024 < asked {
-        return Turned {
-            code: 8,
+    let bench = put(b, lane as usize, opened(direction as u8, key, block));
+    Answer {
+        code,
+        made: 0,
+        bench,
+    }
+}
+
+pub fn turn(b: Bench, asked: u32) -> Answer
+    ensures { λ r. ⌜ r ≡ turnOf b asked ⌝ }
+{
+    let code = turn_code(sound(b), asked);
+    if code != DONE {
+        return Answer {
+            code,
             made: 0,
             bench: b,
         };
     }
     let many = turns(b, asked);
     let bench = many.bench;
-    Turned {
-        code: 0,
+    Answer {
+        code,
         made: many.made,
         bench,
     }
 }
 
-// Refusals: 10, 5, 7, 2.
-pub fn take(b: Bench, lane: u32, out: &mut [u8]) -> Taken
+pub fn take(b: Bench, lane: u32, out: &mut [u8]) -> Answer
     ensures { λ r. ⌜ (r ≡ takeOf b lane (now (out .entry))) × (now (out .exit) ≡ takenBytes b lane (now (out .entry))) ⌝ }
 {
+    let code = take_code(sound(b), lane, phase_at(b, lane), out.len());
+    if code != DONE {
+        return Answer {
+            code,
+            made: 0,
+            bench: b,
+        };
+    }
     let i = lane as usize;
-    if !sound(b) {
-        return Taken { code: 10, bench: b };
-    }
-    if LANES <= i {
-        return Taken { code: 5, bench: b };
-    }
     let l = b.lanes[i];
-    if l.phase != 2 {
-        return Taken { code: 7, bench: b };
-    }
-    if out.len() != 16 {
-        return Taken { code: 2, bench: b };
-    }
-    let state = l.state;
-    unpacking(state, out);
-    let emptied = idled(b, i);
-    Taken {
-        code: 0,
-        bench: emptied,
+    yielded(l, out);
+    let bench = idle_lane(b, i);
+    Answer {
+        code,
+        made: 0,
+        bench,
     }
 }
 
-// Refusals: 10, 5.
-pub fn close(b: Bench, lane: u32) -> Closed
+pub fn close(b: Bench, lane: u32) -> Answer
     ensures { λ r. ⌜ r ≡ closeOf b lane ⌝ }
 {
-    let i = lane as usize;
-    if !sound(b) {
-        return Closed { code: 10, bench: b };
+    let code = close_code(sound(b), lane);
+    if code != DONE {
+        return Answer {
+            code,
+            made: 0,
+            bench: b,
+        };
     }
-    if LANES <= i {
-        return Closed { code: 5, bench: b };
-    }
-    let closed = idled(b, i);
-    Closed {
-        code: 0,
-        bench: closed,
+    let bench = idle_lane(b, lane as usize);
+    Answer {
+        code,
+        made: 0,
+        bench,
     }
 }

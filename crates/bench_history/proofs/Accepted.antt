@@ -3,38 +3,40 @@ use mathlib.Core.Path.{_≡_, refl}
 use mathlib.Core.List.{List, []}
 use mathlib.Core.Logic.{_≢_}
 use Prim.Native.Nat.{ℕ, _≤_, _<_}
-use lib.Dec.{eqb, leb, ltb}
 use lib.ListN.{length}
-use borrow.Author.Tests.{eq-eqb, ne-eqb, eqb-true, leb-true, ltb-true}
-use Rattle.bits.proofs.Computed.{cond-true, cond-false}
+use Rattle.answers.proofs.Outcome.{if-done, if-refused}
+use Rattle.lane.specs.Record.{idle, finished, opened, idled}
 use Rattle.bench.specs.declared.Bench.{Bench}
-use Rattle.lane_record.specs.Record.{idle, finished, opened}
 use Rattle.bench.specs.Turning.{laneCount, laneAt, turnedBy, servedBy}
-use Rattle.bench.specs.Calls.{soundBench, put, idled, openCode, openOf, turnCode, turnOf, takeCode, takeOf, closeCode, closeOf}
-use Rattle.bench.proofs.Passed.{passed}
+use Rattle.bench.specs.Calls.{put, answered, openOf, turnOf, takeOf, closeOf}
+use Rattle.bench.proofs.Passing.{open-passed, turn-passed, take-passed, close-passed}
 use Rattle.bench.proofs.Soundness.{Sound, is-sound}
-use Rattle.bench_history.specs.History.{Call, opening, turning, taking, closing, codeOf, leaves, serves}
+use Rattle.bench_history.specs.History.{Call, opening, turning, taking, closing, answerTo, codeOf, leaves, tells, asks, serves}
 
 -- ---- refused
 
 module _ (b : Bench) where
   pub refused-leaves : (c : Call) → codeOf b c ≢ 0 → leaves b c ≡ b
-  unfolding codeOf leaves openOf turnOf takeOf closeOf
-  refused-leaves (opening lane direction key block) ne = cond-false _ _ b (ne-eqb (openCode b lane direction key block) 0 ne)
-  refused-leaves (turning asked) ne = cond-false _ _ b (ne-eqb (turnCode b asked) 0 ne)
-  refused-leaves (taking lane out) ne = cond-false _ _ b (ne-eqb (takeCode b lane out) 0 ne)
-  refused-leaves (closing lane) ne = cond-false _ _ b (ne-eqb (closeCode b lane) 0 ne)
+  unfolding answerTo openOf turnOf takeOf closeOf answered
+  refused-leaves (opening lane direction key block) ne = if-refused _ _ b ne
+  refused-leaves (turning asked) ne = if-refused _ _ b ne
+  refused-leaves (taking lane out) ne = if-refused _ _ b ne
+  refused-leaves (closing lane) ne = if-refused _ _ b ne
+
+  pub refused-tells : (c : Call) → codeOf b c ≢ 0 → tells b c ≡ 0
+  unfolding answerTo openOf turnOf takeOf closeOf answered
+  refused-tells (opening lane direction key block) ne = if-refused _ _ 0 ne
+  refused-tells (turning asked) ne = if-refused _ _ 0 ne
+  refused-tells (taking lane out) ne = if-refused _ _ 0 ne
+  refused-tells (closing lane) ne = if-refused _ _ 0 ne
 
   pub refused-serves : (c : Call) → codeOf b c ≢ 0 → serves b c ≡ []
-  unfolding codeOf serves
-  refused-serves (opening lane direction key block) ne = refl
-  refused-serves (turning asked) ne = cond-false _ _ [] (ne-eqb (turnOf b asked .code) 0 ne)
-  refused-serves (taking lane out) ne = refl
-  refused-serves (closing lane) ne = refl
+  unfolding serves
+  refused-serves c ne = if-refused (codeOf b c) _ [] ne
 
 -- ---- done
 
-pub record Opens (b : Bench) (lane direction : ℕ) (key block : List ℕ) : Type 0 where
+pub record OpenDone (b : Bench) (lane direction : ℕ) (key block : List ℕ) : Type 0 where
   pub sound : Sound b
   pub lane-lt : lane < laneCount
   pub was-idle : laneAt (b .lanes) lane .phase ≡ idle
@@ -42,74 +44,64 @@ pub record Opens (b : Bench) (lane direction : ℕ) (key block : List ℕ) : Typ
   pub key-long : length key ≡ 16
   pub block-long : length block ≡ 16
   pub left : leaves b (opening lane direction key block) ≡ put b lane (opened direction key block)
+  pub none : serves b (opening lane direction key block) ≡ []
 
-pub opens : (b : Bench) (lane direction : ℕ) (key block : List ℕ) → codeOf b (opening lane direction key block) ≡ 0 → Opens b lane direction key block
-unfolding codeOf leaves openOf openCode
+pub opens : (b : Bench) (lane direction : ℕ) (key block : List ℕ) → codeOf b (opening lane direction key block) ≡ 0 → OpenDone b lane direction key block
+unfolding answerTo openOf answered serves asks servedBy
 opens b lane direction key block e =
-    let p1 = passed (soundBench b) 10 _ refl e in
-    let p2 = passed (ltb lane laneCount) 5 _ refl (p1 .1) in
-    let p3 = passed (eqb (laneAt (b .lanes) lane .phase) idle) 6 _ refl (p2 .1) in
-    let p4 = passed (leb direction 1) 9 _ refl (p3 .1) in
-    let p5 = passed (eqb (length key) 16) 1 _ refl (p4 .1) in
-    let p6 = passed (eqb (length block) 16) 2 0 refl (p5 .1) in
+    let p = open-passed _ lane _ direction (length key) (length block) e in
     record {
-      sound = is-sound b (p1 .0);
-      lane-lt = ltb-true lane laneCount (p2 .0);
-      was-idle = eqb-true (laneAt (b .lanes) lane .phase) idle (p3 .0);
-      direction-le = leb-true direction 1 (p4 .0);
-      key-long = eqb-true (length key) 16 (p5 .0);
-      block-long = eqb-true (length block) 16 (p6 .0);
-      left = cond-true _ (put b lane (opened direction key block)) b (eq-eqb _ 0 e);
+      sound = is-sound b (p .is-sound);
+      lane-lt = p .lane-lt;
+      was-idle = p .was-idle;
+      direction-le = p .direction-le;
+      key-long = p .key-long;
+      block-long = p .block-long;
+      left = if-done _ _ b e;
+      none = if-done _ _ [] e;
     }
 
-pub record Turns (b : Bench) (asked : ℕ) : Type 0 where
+pub record TurnDone (b : Bench) (asked : ℕ) : Type 0 where
   pub sound : Sound b
   pub few : asked ≤ 1024
   pub left : leaves b (turning asked) ≡ turnedBy asked b
   pub logged : serves b (turning asked) ≡ servedBy asked b
 
-pub turns : (b : Bench) (asked : ℕ) → codeOf b (turning asked) ≡ 0 → Turns b asked
-unfolding codeOf leaves serves turnOf turnCode
+pub turns : (b : Bench) (asked : ℕ) → codeOf b (turning asked) ≡ 0 → TurnDone b asked
+unfolding answerTo turnOf answered serves asks
 turns b asked e =
-    let p1 = passed (soundBench b) 10 _ refl e in
-    let p2 = passed (leb asked 1024) 8 0 refl (p1 .1) in
-    record {
-      sound = is-sound b (p1 .0);
-      few = leb-true asked 1024 (p2 .0);
-      left = cond-true _ (turnedBy asked b) b (eq-eqb _ 0 e);
-      logged = cond-true _ (servedBy asked b) [] (eq-eqb _ 0 e);
-    }
+    let p = turn-passed _ asked e in
+    record { sound = is-sound b (p .is-sound); few = p .few; left = if-done _ _ b e; logged = if-done _ _ [] e }
 
-pub record Takes (b : Bench) (lane : ℕ) (out : List ℕ) : Type 0 where
+pub record TakeDone (b : Bench) (lane : ℕ) (out : List ℕ) : Type 0 where
   pub sound : Sound b
   pub lane-lt : lane < laneCount
   pub was-finished : laneAt (b .lanes) lane .phase ≡ finished
   pub out-long : length out ≡ 16
-  pub left : leaves b (taking lane out) ≡ idled b lane
+  pub left : leaves b (taking lane out) ≡ put b lane (idled (laneAt (b .lanes) lane))
+  pub none : serves b (taking lane out) ≡ []
 
-pub takes : (b : Bench) (lane : ℕ) (out : List ℕ) → codeOf b (taking lane out) ≡ 0 → Takes b lane out
-unfolding codeOf leaves takeOf takeCode
+pub takes : (b : Bench) (lane : ℕ) (out : List ℕ) → codeOf b (taking lane out) ≡ 0 → TakeDone b lane out
+unfolding answerTo takeOf answered serves asks servedBy
 takes b lane out e =
-    let p1 = passed (soundBench b) 10 _ refl e in
-    let p2 = passed (ltb lane laneCount) 5 _ refl (p1 .1) in
-    let p3 = passed (eqb (laneAt (b .lanes) lane .phase) finished) 7 _ refl (p2 .1) in
-    let p4 = passed (eqb (length out) 16) 2 0 refl (p3 .1) in
+    let p = take-passed _ lane _ (length out) e in
     record {
-      sound = is-sound b (p1 .0);
-      lane-lt = ltb-true lane laneCount (p2 .0);
-      was-finished = eqb-true (laneAt (b .lanes) lane .phase) finished (p3 .0);
-      out-long = eqb-true (length out) 16 (p4 .0);
-      left = cond-true _ (idled b lane) b (eq-eqb _ 0 e);
+      sound = is-sound b (p .is-sound);
+      lane-lt = p .lane-lt;
+      was-finished = p .was-finished;
+      out-long = p .out-long;
+      left = if-done _ _ b e;
+      none = if-done _ _ [] e;
     }
 
-pub record Closes (b : Bench) (lane : ℕ) : Type 0 where
+pub record CloseDone (b : Bench) (lane : ℕ) : Type 0 where
   pub sound : Sound b
   pub lane-lt : lane < laneCount
-  pub left : leaves b (closing lane) ≡ idled b lane
+  pub left : leaves b (closing lane) ≡ put b lane (idled (laneAt (b .lanes) lane))
+  pub none : serves b (closing lane) ≡ []
 
-pub closings : (b : Bench) (lane : ℕ) → codeOf b (closing lane) ≡ 0 → Closes b lane
-unfolding codeOf leaves closeOf closeCode
+pub closings : (b : Bench) (lane : ℕ) → codeOf b (closing lane) ≡ 0 → CloseDone b lane
+unfolding answerTo closeOf answered serves asks servedBy
 closings b lane e =
-    let p1 = passed (soundBench b) 10 _ refl e in
-    let p2 = passed (ltb lane laneCount) 5 0 refl (p1 .1) in
-    record { sound = is-sound b (p1 .0); lane-lt = ltb-true lane laneCount (p2 .0); left = cond-true _ (idled b lane) b (eq-eqb _ 0 e) }
+    let p = close-passed _ lane e in
+    record { sound = is-sound b (p .is-sound); lane-lt = p .lane-lt; left = if-done _ _ b e; none = if-done _ _ [] e }

@@ -7,24 +7,26 @@ use Prim.Native.Nat.{ℕ, zero, suc, _*_, _≤_, _<_}
 use native.Mathlib.Omega.{arith}
 use lib.Dec.{leb}
 use lib.ListN.{length, take, drop, replicate, take-append-drop}
-use borrow.Author.Tests.{eq-eqb, eqb-false, lt-leb, lt-ltb}
-use Rattle.bits.proofs.Computed.{cond-true}
-use Rattle.published.specs.Bytes.{toBytes}
-use Rattle.published.proofs.Reading.{Bytes}
+use borrow.Author.Tests.{eqb-false, lt-leb, lt-ltb}
+use Rattle.answers.specs.Numbers.{DONE, LANE_NOT_FINISHED}
+use Rattle.answers.proofs.Outcome.{if-done}
+use Rattle.bits.proofs.Truth.{both, together}
+use Rattle.published.specs.Bytes.{toBytes, Bytes}
 use Rattle.published.proofs.Gift128.{block-lt}
 use Rattle.primitives.specs.Packed.{blockOf}
-use Rattle.lane_record.specs.declared.Lane.{Lane}
+use Rattle.lane.specs.declared.Lane.{Lane}
+use Rattle.lane.specs.Record.{idle, running, finished, soundLane, soundCount, opened, lacks, idleWith, freshLane}
+use Rattle.lane.proofs.Records.{finished-count, sound-count, eight-finished, yielded-bytes}
 use Rattle.bench.specs.declared.Bench.{Bench}
-use Rattle.lane_record.specs.Record.{idle, running, finished, soundLane, soundCount, idleWith, opened, lacks}
 use Rattle.bench.specs.Turning.{laneCount, laneAt}
-use Rattle.bench.specs.Calls.{freshBench, allSound, soundBench, takeCode, takeOf, takenBytes}
-use Rattle.bits.proofs.Truth.{both, together}
-use Rattle.lane_record.proofs.Records.{finished-count, sound-count}
+use Rattle.bench.specs.Orders.{takeCode}
+use Rattle.bench.specs.Calls.{freshBench, allSound, soundBench, answered, takeOf, takenBytes}
 use Rattle.bench.proofs.Soundness.{Sound, is-sound, says-sound}
-use Rattle.bench_history.specs.History.{Call, opening, turning, taking, closing, codeOf, leaves, run, log, times, closes, releases, never, servedTimes}
-use Rattle.bench_history.specs.Promises.{standing, answer, Opening, asks, calls, end, finds, left, made, own, Accepted, Unclosed, Kept, Stands, InTime, Held}
-use Rattle.bench_history.proofs.Accepted.{Opens, opens, takes}
+use Rattle.bench_history.specs.History.{Call, opening, turning, taking, closing, answerTo, codeOf, leaves, run, log, times, closes, releases, never, servedTimes}
+use Rattle.bench_history.specs.Promises.{standing, answer, Opening, call, calls, end, finds, left, made, own, Accepted, Unclosed, Kept, Stands, InTime, Held, Refused}
+use Rattle.bench_history.proofs.Accepted.{OpenDone, opens, takes}
 use Rattle.bench_history.proofs.Touched.{sound-leaves, put-here, Touch, touch, same, entered, left as leaving, served as serving}
+use Rattle.bench_history.proofs.Effects.{refused}
 use Rattle.bench_history.proofs.Standing.{times-append, After, stand, turns-wake-none}
 use Rattle.bench_history.proofs.Waiting.{waits}
 use Rattle.bench_history.proofs.Quintuples.{reach, yields}
@@ -40,7 +42,7 @@ fresh-idle : (n : ℕ) → laneAt (freshBench .lanes) n .phase ≡ idle
 unfolding freshBench idleWith
 fresh-idle n = all laneCount n
   where
-    all : (k n : ℕ) → laneAt (replicate k (idleWith (replicate 80 0))) n .phase ≡ idle
+    all : (k n : ℕ) → laneAt (replicate k freshLane) n .phase ≡ idle
     all zero n = refl
     all (suc k) zero = refl
     all (suc k) (suc n) = all k n
@@ -80,11 +82,11 @@ never-closed n (c ∷ cs) b h =
 -- ---- from an accepted opening on
 
 module _ (o : Opening) (ok : Accepted o) where
-  did : Opens (finds o) (o .lane) (o .direction) (o .key) (o .block)
+  did : OpenDone (finds o) (o .lane) (o .direction) (o .key) (o .block)
   did = opens (finds o) (o .lane) (o .direction) (o .key) (o .block) ok
 
   left-sound : Sound (left o)
-  left-sound = sound-leaves (finds o) (asks o) (did .sound)
+  left-sound = sound-leaves (finds o) (call o) (did .sound)
 
   left-lane : laneAt (left o .lanes) (o .lane) ≡ opened (o .direction) (o .key) (o .block)
   left-lane =
@@ -93,7 +95,7 @@ module _ (o : Opening) (ok : Accepted o) where
 
   end-is : end o ≡ run (left o) (o .since)
   unfolding run
-  end-is = run-append (o .before) (asks o ∷ o .since) freshBench
+  end-is = run-append (o .before) (call o ∷ o .since) freshBench
 
   end-sound : Sound (end o)
   end-sound = run-sound (calls o) freshBench fresh-sound
@@ -121,24 +123,30 @@ module _ (o : Opening) (ok : Accepted o) where
 
     -- only a lane with eight turns of its own is taken from
     taken-own : (out : List ℕ) → takeOf (end o) (o .lane) out .code ≡ 0 → own o ≡ 8
-    unfolding codeOf opened
+    unfolding answerTo opened
     taken-own out e =
         omega (arith, stood .counted, finished-count (laneAt (end o .lanes) (o .lane)) (end-sound .each (o .lane) (did .lane-lt)) (takes (end o) (o .lane) out e .was-finished))
 
     taken-bytes : (out : List ℕ) → takeOf (end o) (o .lane) out .code ≡ 0 → takenBytes (end o) (o .lane) out ≡ toBytes 16 (blockOf (laneAt (end o .lanes) (o .lane) .state))
-    unfolding takeOf takenBytes
-    taken-bytes out e = cond-true _ _ out (eq-eqb (takeCode (end o) (o .lane) out) 0 e)
+    unfolding takenBytes answerTo
+    taken-bytes out e = if-done _ _ out e ∙ yielded-bytes (laneAt (end o .lanes) (o .lane)) out (takes (end o) (o .lane) out e .out-long)
 
     -- a lane that was not released was not closed
     unclosed : Unclosed o
     unclosed = never-closed (o .lane) (o .since) (left o) kept
 
-    pub finished-in-time : laneCount * 8 ≤ length (made o) → own o ≡ 8
-    finished-in-time h = omega (arith, at-most, in-time unclosed h, times-take (o .lane) (laneCount * 8) (made o))
+    -- once 32 turns were made on the bench, the lane's record is finished
+    pub finished-in-time : laneCount * 8 ≤ length (made o) → laneAt (end o .lanes) (o .lane) .phase ≡ finished
+    unfolding opened
+    finished-in-time h =
+        eight-finished (laneAt (end o .lanes) (o .lane)) (end-sound .each (o .lane) (did .lane-lt))
+        (omega (arith, stood .counted, at-most, in-time unclosed h, times-take (o .lane) (laneCount * 8) (made o)))
 
     module _ (bytes : Bytes (o .block)) where
       here : laneAt (end o .lanes) (o .lane) ≡ standing (o .direction) (o .key) (o .block) (own o)
-      here = stood .is ∙ reach (o .direction) (o .key) (o .block) (block-lt (o .block) (did .block-long) bytes) (own o) at-most
+      here =
+          stood .is
+          ∙ reach (o .direction) (o .key) (o .block) (block-lt (o .block) (did .block-long) bytes) (did .key-long) (did .block-long) (own o) at-most
 
       phase-is : laneAt (end o .lanes) (o .lane) .phase ≡ cond (leb 8 (own o)) finished running
       unfolding standing
@@ -148,27 +156,34 @@ module _ (o : Opening) (ok : Accepted o) where
       runs-early h = phase-is ∙ ap (λ (t : Bool). cond t finished running) (lt-leb 8 (own o) h)
 
       module _ (out : List ℕ) where
-        early-code : own o < 8 → takeCode (end o) (o .lane) out ≡ 7
-        unfolding takeCode
+        early-code : own o < 8 → takeOf (end o) (o .lane) out .code ≡ LANE_NOT_FINISHED
+        unfolding takeOf answered takeCode
         early-code h = rw (says-sound (end o) end-sound, lt-ltb (o .lane) laneCount (did .lane-lt), runs-early h)
 
-        ready-code : own o ≡ 8 → length out ≡ 16 → takeCode (end o) (o .lane) out ≡ 0
-        unfolding takeCode
+        -- so that the take is refused, and leaves bench and buffer as they were
+        early-take : own o < 8 → (takeOf (end o) (o .lane) out ≡ record { code = LANE_NOT_FINISHED; made = 0; bench = end o }) × (takenBytes (end o) (o .lane) out ≡ out)
+        unfolding answerTo
+        early-take h =
+            let ne : takeOf (end o) (o .lane) out .code ≢ 0 = λ e. eqb-false 7 0 refl (sym (early-code h) ∙ e) in
+            let r : Refused (end o) (taking (o .lane) out) = refused (end o) (taking (o .lane) out) ne in
+            (λ i. record { code = early-code h i; made = r .turns i; bench = r .bench i }, r .buffer (o .lane) out refl)
+
+        ready-code : own o ≡ 8 → length out ≡ 16 → takeOf (end o) (o .lane) out .code ≡ DONE
+        unfolding takeOf answered takeCode
         ready-code h e = rw (says-sound (end o) end-sound, lt-ltb (o .lane) laneCount (did .lane-lt), phase-is, h, e)
 
         ready-bytes : own o ≡ 8 → length out ≡ 16 → takenBytes (end o) (o .lane) out ≡ answer (o .direction) (o .key) (o .block)
-        unfolding takenBytes standing
+        unfolding standing
         ready-bytes h e =
-            rw (ready-code h e, here, h) (yields (o .direction) (o .key) (o .block) (block-lt (o .block) (did .block-long) bytes))
+            taken-bytes out (ready-code h e) ∙ (rw (here, h) (yields (o .direction) (o .key) (o .block) (block-lt (o .block) (did .block-long) bytes)))
 
       -- where the lane stands, and what it yields
       pub stands : Stands o
-      unfolding takeOf takenBytes
       stands =
           record {
             at-most = at-most;
             stands = here;
-            early = λ h out. (rw (early-code out h), rw (early-code out h));
+            early = λ h out. early-take out h;
             ready = λ h out e. (ready-code out h e, ready-bytes out h e);
             only-ready = taken-own;
           }

@@ -1,84 +1,73 @@
 -- What calls do to a bench, whoever made it: turns made and told, refusals, and what stays.
 use mathlib.Core.Path.{_≡_, refl, sym, ap, _∙_}
 use mathlib.Core.Bool.{true, false, cond, false≢true}
-use mathlib.Core.List.{[], _∷_}
+use mathlib.Core.List.{List, [], _∷_}
 use mathlib.Core.Logic.{_≢_}
 use Prim.Native.Nat.{ℕ, zero, suc, _+_, min}
 use native.Mathlib.Decide.{ℕ-discrete}
 use native.Mathlib.Omega.{arith}
 use lib.Dec.{eqb}
 use lib.ListN.{length, replicate}
-use borrow.Author.Tests.{eq-eqb, ne-eqb, eqb-false}
-use Rattle.bits.proofs.Computed.{cond-true, cond-false}
-use Rattle.lane_record.specs.declared.Lane.{Lane}
+use borrow.Author.Tests.{eqb-false}
+use Rattle.answers.proofs.Outcome.{if-done, if-refused}
+use Rattle.lane.specs.declared.Lane.{Lane}
+use Rattle.lane.specs.Record.{opened, lacks, idled}
 use Rattle.bench.specs.declared.Bench.{Bench}
-use Rattle.lane_record.specs.Record.{idleWith, opened, lacks}
 use Rattle.bench.specs.Turning.{laneAt, chosen, anyRuns, turned, turnedBy, servedBy, total}
-use Rattle.bench.specs.Calls.{soundBench, put, idled, turnCode, turnOf, takeCode, takeOf, takenBytes}
+use Rattle.bench.specs.Orders.{turnCode}
+use Rattle.bench.specs.Calls.{soundBench, put, answered, turnOf, takenBytes}
 use Rattle.bench.proofs.Soundness.{Sound, is-sound, says-sound}
 use Rattle.bench.proofs.Seeking.{phase-runs, runs-any}
 use Rattle.bench.proofs.Made.{turned-is, turned-none, sound-turned, by-turns, made-is, counts-more}
-use Rattle.bench_history.specs.History.{Call, opening, turning, taking, closing, codeOf, leaves, lent, holds, tells, serves, run, log, lastOf, names, isTurning}
+use Rattle.bench_history.specs.History.{Call, opening, turning, taking, closing, answerTo, codeOf, leaves, tells, asks, serves, run, log, lastOf, names}
 use Rattle.bench_history.specs.Promises.{Turning, Refused, Frame}
-use Rattle.bench_history.proofs.Accepted.{refused-leaves, refused-serves, Turns, turns, opens, takes, closings}
+use Rattle.bench_history.proofs.Accepted.{refused-leaves, refused-tells, refused-serves, TurnDone, turns, opens, takes, closings}
 use Rattle.bench_history.proofs.Touched.{sound-leaves, put-there, put-last}
 use Rattle.bench_history.proofs.Standing.{stand-turns}
 
 -- ---- refusals
 
 pub refused : (b : Bench) (c : Call) → codeOf b c ≢ 0 → Refused b c
-unfolding codeOf holds lent tells takeOf takenBytes turnOf
-refused b c ne = record { bench = refused-leaves b c ne; buffer = buffer c ne; turns = told c ne; log = refused-serves b c ne }
-  where
-    buffer : (c : Call) → codeOf b c ≢ 0 → holds b c ≡ lent c
-    buffer (opening lane direction key block) ne = refl
-    buffer (turning asked) ne = refl
-    buffer (taking lane out) ne = cond-false _ _ out (ne-eqb (takeCode b lane out) 0 ne)
-    buffer (closing lane) ne = refl
-
-    told : (c : Call) → codeOf b c ≢ 0 → tells b c ≡ 0
-    told (opening lane direction key block) ne = refl
-    told (turning asked) ne = cond-false _ _ 0 (ne-eqb (turnCode b asked) 0 ne)
-    told (taking lane out) ne = refl
-    told (closing lane) ne = refl
+unfolding answerTo takenBytes
+refused b c ne =
+    record {
+      bench = refused-leaves b c ne;
+      buffer = λ lane out e. if-refused _ _ out (λ z. ne (ap (codeOf b) e ∙ z));
+      turns = refused-tells b c ne;
+      log = refused-serves b c ne;
+    }
 
 -- ---- what stays
 
--- a call that is done and is not for turns puts a record into the lane that it names
-record Puts (b : Bench) (c : Call) : Type 0 where
-  lane : ℕ
-  with : Lane
-  left : leaves b c ≡ put b lane with
-  named : (n : ℕ) → names n c ≡ eqb lane n
+-- a call that is done makes the turns asked for, or puts a record into the lane that it names
+data Does (b : Bench) (c : Call) : Type 0 where
+  makes : leaves b c ≡ turnedBy (asks c) b → ((n : ℕ) → names n c ≡ true) → Does b c
+  puts : (lane : ℕ) (l : Lane) → leaves b c ≡ put b lane l → ((n : ℕ) → names n c ≡ eqb lane n) → Does b c
 
-puts : (b : Bench) (c : Call) → codeOf b c ≡ 0 → isTurning c ≡ false → Puts b c
-unfolding isTurning names idled
-puts b (opening lane direction key block) e h =
-    record { lane = lane; with = opened direction key block; left = opens b lane direction key block e .left; named = λ n. refl }
-puts b (turning asked) e h = absurd (false≢true (sym h))
-puts b (taking lane out) e h =
-    record { lane = lane; with = idleWith (laneAt (b .lanes) lane .words); left = takes b lane out e .left; named = λ n. refl }
-puts b (closing lane) e h =
-    record { lane = lane; with = idleWith (laneAt (b .lanes) lane .words); left = closings b lane e .left; named = λ n. refl }
+does : (b : Bench) (c : Call) → codeOf b c ≡ 0 → Does b c
+unfolding names asks
+does b (opening lane direction key block) e = puts lane (opened direction key block) (opens b lane direction key block e .left) (λ n. refl)
+does b (turning asked) e = makes (turns b asked e .left) (λ n. refl)
+does b (taking lane out) e = puts lane (idled (laneAt (b .lanes) lane)) (takes b lane out e .left) (λ n. refl)
+does b (closing lane) e = puts lane (idled (laneAt (b .lanes) lane)) (closings b lane e .left) (λ n. refl)
 
--- turns may change any lane
-turns-name : (n : ℕ) (c : Call) → names n c ≡ false → isTurning c ≡ false
-unfolding names isTurning
-turns-name n (opening lane direction key block) h = refl
-turns-name n (turning asked) h = h
-turns-name n (taking lane out) h = refl
-turns-name n (closing lane) h = refl
+done-frame : (b : Bench) (c : Call) → Does b c → Frame b c
+unfolding turnedBy
+done-frame b c (makes left named) =
+    record {
+      lanes = λ n h. absurd (false≢true (sym h ∙ named n));
+      last = λ h. ap (λ (d : Bench). d .last) left ∙ ap (λ (k : ℕ). turnedBy k b .last) h;
+    }
+done-frame b c (puts lane l left named) =
+    record {
+      lanes = λ n h. ap (λ (d : Bench). laneAt (d .lanes) n) left ∙ put-there b lane l n (λ q. eqb-false lane n (sym (named n) ∙ h) (sym q));
+      last = λ h. ap (λ (d : Bench). d .last) left ∙ put-last b lane l;
+    }
 
 pub frame : (b : Bench) (c : Call) → Frame b c
 frame b c =
     elim (ℕ-discrete (codeOf b c) 0) [
-      | yes e ↦ record {
-        lanes = λ n h.
-            let p = puts b c e (turns-name n c h) in
-            ap (λ (d : Bench). laneAt (d .lanes) n) (p .left)
-            ∙ put-there b (p .lane) (p .with) n (λ q. eqb-false (p .lane) n (sym (p .named n) ∙ h) (sym q));
-        last = λ h. let p = puts b c e h in ap (λ (d : Bench). d .last) (p .left) ∙ put-last b (p .lane) (p .with);
-      }
+      | yes e ↦ done-frame b c (does b c e)
       | no ne ↦ record {
         lanes = λ n h. ap (λ (d : Bench). laneAt (d .lanes) n) (refused-leaves b c ne);
         last = λ h. ap (λ (d : Bench). d .last) (refused-leaves b c ne);
@@ -89,7 +78,7 @@ frame b c =
 
 module _ (b : Bench) (s : Sound b) where
   one-done : codeOf b (turning 1) ≡ 0
-  unfolding codeOf turnOf turnCode
+  unfolding answerTo turnOf answered turnCode
   one-done = rw (says-sound b s)
 
   one-left : leaves b (turning 1) ≡ turned b
@@ -134,12 +123,12 @@ last-served =
     (λ k b is e s any h. h ∙ ap (λ (d : Bench). lastOf (d .last) is) (turned-is b any))
 
 told-is : (b : Bench) (asked : ℕ) → codeOf b (turning asked) ≡ 0 → turnOf b asked .made ≡ min asked (total lacks (b .lanes))
-unfolding codeOf turnOf
-told-is b asked e = cond-true (eqb (turnCode b asked) 0) _ 0 (eq-eqb (turnCode b asked) 0 e)
+unfolding answerTo turnOf answered
+told-is b asked e = if-done _ _ 0 e
 
 pub turning-done : (b : Bench) (asked : ℕ) → codeOf b (turning asked) ≡ 0 → Turning b asked
 turning-done b asked e =
-    let t : Turns b asked = turns b asked e in
+    let t : TurnDone b asked = turns b asked e in
     let s : Sound b = t .sound in
     let told : turnOf b asked .made ≡ min asked (total lacks (b .lanes)) = told-is b asked e in
     let logged : length (serves b (turning asked)) ≡ turnOf b asked .made = ap length (t .logged) ∙ made-is asked b s ∙ sym told in

@@ -3,11 +3,12 @@ use mathlib.Core.Path.{_≡_, refl}
 use mathlib.Core.List.{List, [], _∷_, _++_, map}
 use Prim.Native.Nat.{ℕ, _*_}
 use lib.ListN.{length, take, replicate}
+use Rattle.lane.specs.Record.{soundCount, soundLane, idleWith, opened, served, lacks}
 use Rattle.bench.specs.declared.Bench.{Bench}
-use Rattle.lane_record.specs.Record.{soundCount, soundLane, idleWith, opened, served, lacks}
 use Rattle.bench.specs.Turning.{laneCount, runs, after, seek, chosen, anyRuns, turned, turnedBy, servedBy, total}
-use Rattle.bench.specs.Calls.{freshBench, allSound, soundBench, put, idled, openCode, openOf, turnCode, turnOf, takeCode, takeOf, closeCode, closeOf}
-use Rattle.bench_history.specs.History.{Call, opening, turning, taking, closing, codeOf, leaves, tells, serves, run, log, times, never, closes, releases}
+use Rattle.bench.specs.Orders.{openCode, turnCode, takeCode, closeCode}
+use Rattle.bench.specs.Calls.{freshBench, allSound, soundBench, put, answered, openOf, turnOf, takeOf, closeOf}
+use Rattle.bench_history.specs.History.{Call, opening, turning, taking, closing, answerTo, codeOf, leaves, tells, asks, serves, run, log, times, never, closes, releases}
 use Rattle.bench_history.specs.Promises.{Opening, Accepted, Unclosed, Kept, made, own}
 
 bytes : ℕ → List ℕ
@@ -56,7 +57,7 @@ examples :
     × (numbers astray (encrypts 4 ∷ turning 1025 ∷ taking 4 [] ∷ closing 0 ∷ []) ≡ 10 ∷ 10 ∷ 10 ∷ 10 ∷ [])
 unfolding
     bytes encrypts decrypts four phases counts numbers astray soundCount soundLane idleWith opened served laneCount runs after seek chosen anyRuns turned turnedBy servedBy lacks total
-    freshBench allSound soundBench put idled openCode openOf turnCode turnOf takeCode takeOf closeCode closeOf codeOf leaves tells serves run log
+    freshBench allSound soundBench put answered openCode openOf turnCode turnOf takeCode takeOf closeCode closeOf answerTo asks serves run log
 examples = (refl, refl, refl, refl, refl, refl, refl, refl, refl, refl, refl, refl, refl, refl, refl)
 
 -- An opening that meets what the promises ask of one, with the last of its 32 turns the lane's eighth: no hypothesis is out of reach, and 32 is reached.
@@ -74,6 +75,6 @@ fourth =
 reached-by-one : Accepted fourth × Unclosed fourth × Kept fourth × (length (made fourth) ≡ 32) × (times 3 (take 31 (made fourth)) ≡ 7) × (own fourth ≡ 8)
 unfolding
     bytes encrypts decrypts soundCount soundLane idleWith opened served laneCount runs after seek chosen anyRuns turned turnedBy servedBy lacks total
-    freshBench allSound soundBench put idled openCode openOf turnCode turnOf takeCode takeOf closeCode closeOf codeOf leaves serves run log
+    freshBench allSound soundBench put answered openCode openOf turnCode turnOf takeCode takeOf closeCode closeOf answerTo asks serves run log
     fourth times never closes releases
 reached-by-one = (refl, refl, refl, refl, refl, refl)

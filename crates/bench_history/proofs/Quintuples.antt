@@ -12,9 +12,10 @@ use lib.ListN.{length, take, drop}
 use lib.Seq.{take-all}
 use borrow.Author.Tests.{le-leb, lt-leb, lt-ltb, eq-eqb, ne-eqb}
 use Rattle.bits.proofs.Computed.{cond-true}
+use Rattle.bits.proofs.Truth.{cond-either}
 use Rattle.published.specs.Bytes.{fromBytes, toBytes}
-use Rattle.published.specs.Rounds.{Pair, rounds, unrounds}
-use Rattle.published.specs.Gift128.{pairOf, pairsOf, encrypted, decrypted}
+use Rattle.published.specs.Rounds.{Pair, rounds}
+use Rattle.published.specs.Gift128.{pairOf, pairsOf, rounds128, unrounds128, encrypted, decrypted}
 use Rattle.published.proofs.Steps.{width128}
 use Rattle.published.proofs.Undone.{rounds-lt, unrounds-lt}
 use Rattle.published.proofs.Gift128.{length-pairs}
@@ -24,8 +25,8 @@ use Rattle.quintuple.specs.Quintuple.{quintupled, unquintupled}
 use Rattle.quintuple.proofs.Eight.{forward, backward, none-undone}
 use Rattle.key_schedule.specs.Expand.{expanded}
 use Rattle.key_schedule.proofs.Expanded.{pairs-of-expanded, length-expanded}
-use Rattle.lane_record.specs.Record.{running, finished, opened, advanced, served}
-use Rattle.bits.proofs.Truth.{cond-either}
+use Rattle.lane.specs.Record.{running, finished, opened, advanced, served}
+use Rattle.lane.proofs.Records.{opened-on}
 use Rattle.bench_history.specs.History.{servedTimes}
 use Rattle.bench_history.specs.Promises.{reached, standing, answer}
 
@@ -44,11 +45,11 @@ last-turn t h =
 module _ (direction : ℕ) (key block : List ℕ) (x-lt : fromBytes block < 2 ^ 128) where
   -- the key's words stand for its pairs
   done : (i : ℕ) → i % 5 ≡ 0 → i < 40
-      → quintupled (stateOf (rounds 128 1 (take i (pairsOf key)) 0 (fromBytes block))) (drop (2 * i) (expanded key)) i ≡ stateOf (rounds 128 1 (take (i + 5) (pairsOf key)) 0 (fromBytes block))
+      → quintupled (stateOf (rounds128 (take i (pairsOf key)) 0 (fromBytes block))) (drop (2 * i) (expanded key)) i ≡ stateOf (rounds128 (take (i + 5) (pairsOf key)) 0 (fromBytes block))
   done i m l = rw (pairs-of-expanded key) at (forward (expanded key) (length-expanded key) (fromBytes block) x-lt i m l)
 
   undone : (i : ℕ) → i % 5 ≡ 0 → i < 40
-      → unquintupled (stateOf (unrounds 128 1 (drop (i + 5) (pairsOf key)) (i + 5) (fromBytes block))) (drop (2 * i) (expanded key)) i ≡ stateOf (unrounds 128 1 (drop i (pairsOf key)) i (fromBytes block))
+      → unquintupled (stateOf (unrounds128 (drop (i + 5) (pairsOf key)) (i + 5) (fromBytes block))) (drop (2 * i) (expanded key)) i ≡ stateOf (unrounds128 (drop i (pairsOf key)) i (fromBytes block))
   undone i m l = rw (pairs-of-expanded key) at (backward (expanded key) (length-expanded key) (fromBytes block) x-lt i m l)
 
   advance : (t : ℕ) → t < 8 → advanced (standing direction key block t) ≡ stateOf (reached direction key block (suc t))
@@ -60,9 +61,9 @@ module _ (direction : ℕ) (key block : List ℕ) (x-lt : fromBytes block < 2 ^ 
 
       go : (f : Bool)
           → cond f
-          (quintupled (stateOf (cond f (rounds 128 1 (take (5 * t) (pairsOf key)) 0 x) (unrounds 128 1 (drop (40 - 5 * t) (pairsOf key)) (40 - 5 * t) x))) (drop (2 * (5 * t)) (expanded key)) (5 * t))
-          (unquintupled (stateOf (cond f (rounds 128 1 (take (5 * t) (pairsOf key)) 0 x) (unrounds 128 1 (drop (40 - 5 * t) (pairsOf key)) (40 - 5 * t) x))) (drop (2 * (35 - 5 * t)) (expanded key)) (35 - 5 * t))
-          ≡ stateOf (cond f (rounds 128 1 (take (5 * suc t) (pairsOf key)) 0 x) (unrounds 128 1 (drop (40 - 5 * suc t) (pairsOf key)) (40 - 5 * suc t) x))
+          (quintupled (stateOf (cond f (rounds128 (take (5 * t) (pairsOf key)) 0 x) (unrounds128 (drop (40 - 5 * t) (pairsOf key)) (40 - 5 * t) x))) (drop (2 * (5 * t)) (expanded key)) (5 * t))
+          (unquintupled (stateOf (cond f (rounds128 (take (5 * t) (pairsOf key)) 0 x) (unrounds128 (drop (40 - 5 * t) (pairsOf key)) (40 - 5 * t) x))) (drop (2 * (35 - 5 * t)) (expanded key)) (35 - 5 * t))
+          ≡ stateOf (cond f (rounds128 (take (5 * suc t) (pairsOf key)) 0 x) (unrounds128 (drop (40 - 5 * suc t) (pairsOf key)) (40 - 5 * suc t) x))
       go true =
           let five : 5 * suc t ≡ 5 * t + 5 = omega arith in
           rw five (done (5 * t) (omega arith) (omega arith))
@@ -77,18 +78,20 @@ module _ (direction : ℕ) (key block : List ℕ) (x-lt : fromBytes block < 2 ^ 
       cond-true (ltb t 8) _ _ (lt-ltb t 8 h)
       ∙ λ i. record { phase = cond (last-turn t h i) finished running; direction = direction; count = add-one t i; words = expanded key; state = advance t h i }
 
-  start : opened direction key block ≡ standing direction key block 0
-  unfolding opened standing reached rounds
-  start = λ i. record { phase = running; direction = direction; count = 0; words = expanded key; state = same (eqb direction 0) i }
+  start : length key ≡ 16 → length block ≡ 16 → opened direction key block ≡ standing direction key block 0
+  unfolding standing reached rounds
+  start k b =
+      opened-on direction key block k b
+      ∙ λ i. record { phase = running; direction = direction; count = 0; words = expanded key; state = same (eqb direction 0) i }
     where
-      same : (f : Bool) → stateOf (fromBytes block) ≡ stateOf (cond f (fromBytes block) (unrounds 128 1 (drop 40 (pairsOf key)) 40 (fromBytes block)))
+      same : (f : Bool) → stateOf (fromBytes block) ≡ stateOf (cond f (fromBytes block) (unrounds128 (drop 40 (pairsOf key)) 40 (fromBytes block)))
       same true = refl
       same false = rw (pairs-of-expanded key) at (none-undone (expanded key) (length-expanded key) (fromBytes block) x-lt)
 
-  pub reach : (t : ℕ) → t ≤ 8 → servedTimes t (opened direction key block) ≡ standing direction key block t
+  pub reach : length key ≡ 16 → length block ≡ 16 → (t : ℕ) → t ≤ 8 → servedTimes t (opened direction key block) ≡ standing direction key block t
   unfolding servedTimes
-  reach zero h = start
-  reach (suc t) h = ap served (reach t (omega arith)) ∙ serve t h
+  reach k b zero h = start k b
+  reach k b (suc t) h = ap served (reach k b t (omega arith)) ∙ serve t h
 
   -- the state is a block's, and after the eighth turn it is the answer's
   pub reached-lt : (t : ℕ) → reached direction key block t < 2 ^ 128
@@ -102,7 +105,7 @@ module _ (direction : ℕ) (key block : List ℕ) (x-lt : fromBytes block < 2 ^ 
   unfolding reached answer encrypted decrypted
   yields = ap (toBytes 16) (blockOf-stateOf (reached direction key block 8) (reached-lt 8)) ∙ go (eqb direction 0)
     where
-      go : (f : Bool) → toBytes 16 (cond f (rounds 128 1 (take 40 (pairsOf key)) 0 (fromBytes block)) (unrounds 128 1 (pairsOf key) 0 (fromBytes block)))
-          ≡ cond f (toBytes 16 (rounds 128 1 (pairsOf key) 0 (fromBytes block))) (toBytes 16 (unrounds 128 1 (pairsOf key) 0 (fromBytes block)))
-      go true = ap (λ (ps : List Pair). toBytes 16 (rounds 128 1 ps 0 (fromBytes block))) (take-all 40 (pairsOf key) (le-of-eq (forty key)))
+      go : (f : Bool) → toBytes 16 (cond f (rounds128 (take 40 (pairsOf key)) 0 (fromBytes block)) (unrounds128 (pairsOf key) 0 (fromBytes block)))
+          ≡ cond f (toBytes 16 (rounds128 (pairsOf key) 0 (fromBytes block))) (toBytes 16 (unrounds128 (pairsOf key) 0 (fromBytes block)))
+      go true = ap (λ (ps : List Pair). toBytes 16 (rounds128 ps 0 (fromBytes block))) (take-all 40 (pairsOf key) (le-of-eq (forty key)))
       go false = refl

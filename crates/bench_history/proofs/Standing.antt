@@ -11,12 +11,12 @@ use native.Mathlib.Omega.{arith}
 use lib.Dec.{eqb}
 use borrow.Author.Tests.{eq-eqb, ne-eqb, eqb-false, not-true}
 use Rattle.bits.proofs.Computed.{cond-true, cond-false}
-use Rattle.lane_record.specs.declared.Lane.{Lane}
-use Rattle.bench.specs.declared.Bench.{Bench}
-use Rattle.lane_record.specs.Record.{idle, running, soundLane, served}
-use Rattle.bench.specs.Turning.{laneAt, chosen, anyRuns, turned, turnedBy, servedBy}
 use Rattle.bits.proofs.Truth.{both}
-use Rattle.lane_record.proofs.Records.{served-count, served-busy}
+use Rattle.lane.specs.declared.Lane.{Lane}
+use Rattle.lane.specs.Record.{idle, running, soundLane, served}
+use Rattle.lane.proofs.Records.{served-count, served-busy}
+use Rattle.bench.specs.declared.Bench.{Bench}
+use Rattle.bench.specs.Turning.{laneAt, chosen, anyRuns, turned, turnedBy, servedBy}
 use Rattle.bench.proofs.Soundness.{Sound, set-here, set-there}
 use Rattle.bench.proofs.Seeking.{chosen-lt}
 use Rattle.bench.proofs.Made.{turned-is, chosen-phase, chosen-sound, by-turns}

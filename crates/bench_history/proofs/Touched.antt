@@ -7,15 +7,15 @@ use Prim.Native.Nat.{ℕ, _≤_, _<_}
 use native.Mathlib.Decide.{ℕ-discrete}
 use lib.Dec.{eqb, leb}
 use borrow.Author.Tests.{eq-eqb, ne-eqb, le-leb}
-use Rattle.lane_record.specs.declared.Lane.{Lane}
-use Rattle.bench.specs.declared.Bench.{Bench}
-use Rattle.lane_record.specs.Record.{idle, finished, soundLane, soundCount, idleWith, opened}
-use Rattle.bench.specs.Turning.{laneCount, laneAt, turnedBy, servedBy}
-use Rattle.bench.specs.Calls.{put, idled, takeOf, closeOf}
 use Rattle.bits.proofs.Truth.{together}
+use Rattle.lane.specs.declared.Lane.{Lane}
+use Rattle.lane.specs.Record.{idle, finished, soundLane, soundCount, idleWith, opened, idled}
+use Rattle.bench.specs.declared.Bench.{Bench}
+use Rattle.bench.specs.Turning.{laneCount, laneAt, turnedBy, servedBy}
+use Rattle.bench.specs.Calls.{put, takeOf, closeOf}
 use Rattle.bench.proofs.Soundness.{Sound, sound-put, set-here, set-there}
 use Rattle.bench.proofs.Made.{sound-turns}
-use Rattle.bench_history.specs.History.{Call, opening, turning, taking, closing, codeOf, leaves, serves, closes, releases}
+use Rattle.bench_history.specs.History.{Call, opening, turning, taking, closing, answerTo, codeOf, leaves, serves, closes, releases}
 use Rattle.bench_history.proofs.Accepted.{refused-leaves, refused-serves, opens, turns, takes, closings}
 
 -- ---- soundness
@@ -24,13 +24,12 @@ opened-sound : (direction : ℕ) (key block : List ℕ) → direction ≤ 1 → 
 unfolding soundLane soundCount opened
 opened-sound direction key block h = together (leb direction 1) true (le-leb direction 1 h) refl
 
-idle-sound : (ws : List ℕ) → soundLane (idleWith ws) ≡ true
+idled-sound : (l : Lane) → soundLane (idled l) ≡ true
 unfolding soundLane soundCount idleWith
-idle-sound ws = refl
+idled-sound l = refl
 
-sound-idled : (b : Bench) (i : ℕ) → Sound b → i < laneCount → Sound (idled b i)
-unfolding idled
-sound-idled b i s h = sound-put b i (idleWith (laneAt (b .lanes) i .words)) s h (idle-sound (laneAt (b .lanes) i .words))
+sound-idled : (b : Bench) (i : ℕ) → Sound b → i < laneCount → Sound (put b i (idled (laneAt (b .lanes) i)))
+sound-idled b i s h = sound-put b i (idled (laneAt (b .lanes) i)) s h (idled-sound (laneAt (b .lanes) i))
 
 done-sound : (b : Bench) (c : Call) → codeOf b c ≡ 0 → Sound (leaves b c)
 done-sound b (opening lane direction key block) e =
@@ -102,7 +101,7 @@ elsewhere n b c i l e z k ne =
 
 -- what is refused releases nothing, and what is done in another lane does not release this one
 refused-keeps : (n : ℕ) (b : Bench) (c : Call) → codeOf b c ≢ 0 → releases n b c ≡ false
-unfolding codeOf releases
+unfolding answerTo releases
 refused-keeps n b (opening lane direction key block) ne = refl
 refused-keeps n b (turning asked) ne = refl
 refused-keeps n b (taking lane out) ne = rw (ne-eqb (takeOf b lane out .code) 0 ne) (and-false (eqb lane n))
@@ -111,17 +110,17 @@ refused-keeps n b (closing lane) ne = rw (ne-eqb (closeOf b lane .code) 0 ne) (a
 other-keeps : (n lane : ℕ) (t : Bool) → n ≢ lane → eqb lane n && t ≡ false
 other-keeps n lane t ne = rw (ne-eqb lane n (λ e. ne (sym e)))
 
-idled-here : (b : Bench) (i : ℕ) → Sound b → i < laneCount → laneAt (idled b i .lanes) i .phase ≡ idle
-unfolding idled idleWith
-idled-here b i s h = ap (λ (l : Lane). l .phase) (put-here b i (idleWith (laneAt (b .lanes) i .words)) s h)
+idled-here : (b : Bench) (i : ℕ) → Sound b → i < laneCount → laneAt (put b i (idled (laneAt (b .lanes) i)) .lanes) i .phase ≡ idle
+unfolding idleWith
+idled-here b i s h = ap (λ (l : Lane). l .phase) (put-here b i (idled (laneAt (b .lanes) i)) s h)
 
 touch-done : (n : ℕ) (b : Bench) (c : Call) → codeOf b c ≡ 0 → Touch n b c
-unfolding serves releases closes codeOf idled
+unfolding releases closes answerTo
 touch-done n b (opening lane direction key block) e =
     let o = opens b lane direction key block e in
     elim (ℕ-discrete n lane) [
       | yes p ↦ entered (record { direction = direction; key = key; block = block; call = ap (λ (i : ℕ). opening i direction key block) (sym p); accepted = e; was-idle = rw p (o .was-idle) })
-      | no ne ↦ elsewhere n b (opening lane direction key block) lane (opened direction key block) (o .left) refl refl ne
+      | no ne ↦ elsewhere n b (opening lane direction key block) lane (opened direction key block) (o .left) (o .none) refl ne
     ]
 touch-done n b (turning asked) e = served asked (turns b asked e .left) (turns b asked e .logged) refl
 touch-done n b (taking lane out) e =
@@ -132,7 +131,7 @@ touch-done n b (taking lane out) e =
         how = inr (rw p (o .was-finished));
         idle-now = rw (o .left, p) (idled-here b lane (o .sound) (o .lane-lt));
       })
-      | no ne ↦ elsewhere n b (taking lane out) lane (idleWith (laneAt (b .lanes) lane .words)) (o .left) refl (other-keeps n lane _ ne) ne
+      | no ne ↦ elsewhere n b (taking lane out) lane (idled (laneAt (b .lanes) lane)) (o .left) (o .none) (other-keeps n lane _ ne) ne
     ]
 touch-done n b (closing lane) e =
     let o = closings b lane e in
@@ -142,7 +141,7 @@ touch-done n b (closing lane) e =
         how = inl (together (eqb lane n) _ (eq-eqb lane n (sym p)) (eq-eqb _ 0 e));
         idle-now = rw (o .left, p) (idled-here b lane (o .sound) (o .lane-lt));
       })
-      | no ne ↦ elsewhere n b (closing lane) lane (idleWith (laneAt (b .lanes) lane .words)) (o .left) refl (other-keeps n lane _ ne) ne
+      | no ne ↦ elsewhere n b (closing lane) lane (idled (laneAt (b .lanes) lane)) (o .left) (o .none) (other-keeps n lane _ ne) ne
     ]
 
 pub touch : (n : ℕ) (b : Bench) (c : Call) → Touch n b c

@@ -10,12 +10,12 @@ use native.Mathlib.Omega.{arith}
 use lib.Dec.{eqb}
 use lib.ListN.{length, take}
 use borrow.Author.Tests.{eqb-true, eqb-false, not-true}
-use Rattle.lane_record.specs.declared.Lane.{Lane}
-use Rattle.bench.specs.declared.Bench.{Bench}
-use Rattle.lane_record.specs.Record.{running, lacks}
-use Rattle.bench.specs.Turning.{laneCount, laneAt, runs, after, chosen, anyRuns, turned, turnedBy, servedBy}
 use Rattle.bits.proofs.Truth.{both}
-use Rattle.lane_record.proofs.Records.{served-lacks}
+use Rattle.lane.specs.declared.Lane.{Lane}
+use Rattle.lane.specs.Record.{running, lacks}
+use Rattle.lane.proofs.Records.{served-lacks}
+use Rattle.bench.specs.declared.Bench.{Bench}
+use Rattle.bench.specs.Turning.{laneCount, laneAt, runs, after, chosen, anyRuns, turned, turnedBy, servedBy}
 use Rattle.bench.proofs.Soundness.{Sound}
 use Rattle.bench.proofs.Seeking.{some-lane, phase-runs, steps, steps-lt, steps-after, after-lt, Found, chosen-near, runs-any}
 use Rattle.bench.proofs.Made.{turned-is, sound-turned}

@@ -3,11 +3,14 @@ use mathlib.Core.Bool.{Bool, true, false, cond, _&&_, not}
 use mathlib.Core.List.{List, [], _∷_, _++_}
 use Prim.Native.Nat.{ℕ, zero, suc}
 use lib.Dec.{eqb}
-use Rattle.lane_record.specs.declared.Lane.{Lane}
+use Rattle.answers.specs.Numbers.{DONE}
+use Rattle.answers.specs.Order.{ifDone}
+use Rattle.lane.specs.declared.Lane.{Lane}
+use Rattle.lane.specs.Record.{served}
 use Rattle.bench.specs.declared.Bench.{Bench}
-use Rattle.lane_record.specs.Record.{served}
+use Rattle.bench.specs.declared.Answer.{Answer}
 use Rattle.bench.specs.Turning.{servedBy}
-use Rattle.bench.specs.Calls.{ifDone, openOf, turnOf, takeOf, takenBytes, closeOf}
+use Rattle.bench.specs.Calls.{openOf, turnOf, takeOf, closeOf}
 
 pub data Call : Type 0 where
   opening : (lane direction : ℕ) (key block : List ℕ) → Call
@@ -15,46 +18,31 @@ pub data Call : Type 0 where
   taking : (lane : ℕ) (out : List ℕ) → Call
   closing : (lane : ℕ) → Call
 
--- the number that a call gives back
-unfoldable pub codeOf : Bench → Call → ℕ
-codeOf b (opening lane direction key block) = openOf b lane direction key block .code
-codeOf b (turning asked) = turnOf b asked .code
-codeOf b (taking lane out) = takeOf b lane out .code
-codeOf b (closing lane) = closeOf b lane .code
+-- what a call answers: its number, the bench that it leaves, and the turns that it tells
+unfoldable pub answerTo : Bench → Call → Answer
+answerTo b (opening lane direction key block) = openOf b lane direction key block
+answerTo b (turning asked) = turnOf b asked
+answerTo b (taking lane out) = takeOf b lane out
+answerTo b (closing lane) = closeOf b lane
 
--- the bench that it leaves
-unfoldable pub leaves : Bench → Call → Bench
-leaves b (opening lane direction key block) = openOf b lane direction key block .bench
-leaves b (turning asked) = turnOf b asked .bench
-leaves b (taking lane out) = takeOf b lane out .bench
-leaves b (closing lane) = closeOf b lane .bench
+abbrev pub codeOf : Bench → Call → ℕ
+codeOf b c = answerTo b c .code
 
--- the buffer lent to it, and what the buffer holds afterwards
-unfoldable pub lent : Call → List ℕ
-lent (opening lane direction key block) = []
-lent (turning asked) = []
-lent (taking lane out) = out
-lent (closing lane) = []
+abbrev pub leaves : Bench → Call → Bench
+leaves b c = answerTo b c .bench
 
-unfoldable pub holds : Bench → Call → List ℕ
-holds b (opening lane direction key block) = []
-holds b (turning asked) = []
-holds b (taking lane out) = takenBytes b lane out
-holds b (closing lane) = []
+abbrev pub tells : Bench → Call → ℕ
+tells b c = answerTo b c .made
 
--- the turns that it tells
-unfoldable pub tells : Bench → Call → ℕ
-tells b (opening lane direction key block) = 0
-tells b (turning asked) = turnOf b asked .made
-tells b (taking lane out) = 0
-tells b (closing lane) = 0
+-- the turns that it asks for, and the lanes that it serves, one for each turn made, in order
+unfoldable pub asks : Call → ℕ
+asks (opening lane direction key block) = 0
+asks (turning asked) = asked
+asks (taking lane out) = 0
+asks (closing lane) = 0
 
--- the lanes that it serves, one for each turn made, in order
 unfoldable pub serves : Bench → Call → List ℕ
-serves b (opening lane direction key block) = []
-serves b (turning asked) = ifDone (turnOf b asked .code) (servedBy asked b) []
-serves b (taking lane out) = []
-serves b (closing lane) = []
+serves b c = ifDone (codeOf b c) (servedBy (asks c) b) []
 
 -- the bench after a list of calls, and the log of the turns made in it
 unfoldable pub run : Bench → List Call → Bench
@@ -75,13 +63,7 @@ unfoldable pub lastOf : ℕ → List ℕ → ℕ
 lastOf i [] = i
 lastOf i (j ∷ js) = lastOf j js
 
--- whether a call is for turns; whether it may change lane n
-unfoldable pub isTurning : Call → Bool
-isTurning (opening lane direction key block) = false
-isTurning (turning asked) = true
-isTurning (taking lane out) = false
-isTurning (closing lane) = false
-
+-- whether a call may change lane n
 unfoldable pub names : ℕ → Call → Bool
 names n (opening lane direction key block) = eqb lane n
 names n (turning asked) = true
@@ -93,13 +75,13 @@ unfoldable pub closes : ℕ → Bench → Call → Bool
 closes n b (opening lane direction key block) = false
 closes n b (turning asked) = false
 closes n b (taking lane out) = false
-closes n b (closing lane) = eqb lane n && eqb (closeOf b lane .code) 0
+closes n b (closing lane) = eqb lane n && eqb (closeOf b lane .code) DONE
 
 unfoldable pub releases : ℕ → Bench → Call → Bool
 releases n b (opening lane direction key block) = false
 releases n b (turning asked) = false
-releases n b (taking lane out) = eqb lane n && eqb (takeOf b lane out .code) 0
-releases n b (closing lane) = eqb lane n && eqb (closeOf b lane .code) 0
+releases n b (taking lane out) = eqb lane n && eqb (takeOf b lane out .code) DONE
+releases n b (closing lane) = eqb lane n && eqb (closeOf b lane .code) DONE
 
 -- no call of a list does it
 unfoldable pub never : (Bench → Call → Bool) → Bench → List Call → Bool

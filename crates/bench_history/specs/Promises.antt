@@ -6,17 +6,17 @@ use mathlib.Core.List.{List, [], _∷_, _++_}
 use Prim.Native.Nat.{ℕ, _+_, _-_, _*_, _≤_, _<_, min}
 use lib.Dec.{eqb, leb}
 use lib.ListN.{length, take, drop, replicate}
-use Rattle.published.specs.Bytes.{fromBytes}
-use Rattle.published.specs.Rounds.{rounds, unrounds}
-use Rattle.published.specs.Gift128.{pairsOf, encrypted, decrypted}
+use Rattle.answers.specs.Numbers.{DONE, LANE_NOT_FINISHED}
+use Rattle.published.specs.Bytes.{readBlock}
+use Rattle.published.specs.Gift128.{pairsOf, rounds128, unrounds128, encrypted, decrypted}
 use Rattle.primitives.specs.Packed.{stateOf}
-use Rattle.lane_record.specs.declared.Lane.{Lane}
-use Rattle.bench.specs.declared.Bench.{Bench}
 use Rattle.key_schedule.specs.Expand.{expanded}
-use Rattle.lane_record.specs.Record.{running, finished, lacks}
+use Rattle.lane.specs.declared.Lane.{Lane}
+use Rattle.lane.specs.Record.{running, finished, lacks}
+use Rattle.bench.specs.declared.Bench.{Bench}
 use Rattle.bench.specs.Turning.{laneCount, laneAt, total}
 use Rattle.bench.specs.Calls.{freshBench, turnOf, takeOf, takenBytes}
-use Rattle.bench_history.specs.History.{Call, opening, turning, codeOf, leaves, lent, holds, tells, serves, run, log, times, lastOf, closes, releases, never, names, isTurning, servedTimes}
+use Rattle.bench_history.specs.History.{Call, opening, turning, taking, codeOf, leaves, tells, asks, serves, run, log, times, lastOf, closes, releases, never, names, servedTimes}
 
 -- ---- what a lane's record is to be
 
@@ -24,8 +24,8 @@ use Rattle.bench_history.specs.History.{Call, opening, turning, codeOf, 
 unfoldable pub reached : ℕ → List ℕ → List ℕ → ℕ → ℕ
 reached direction key block t =
     cond (eqb direction 0)
-    (rounds 128 1 (take (5 * t) (pairsOf key)) 0 (fromBytes block))
-    (unrounds 128 1 (drop (40 - 5 * t) (pairsOf key)) (40 - 5 * t) (fromBytes block))
+    (rounds128 (take (5 * t) (pairsOf key)) 0 (readBlock block))
+    (unrounds128 (drop (40 - 5 * t) (pairsOf key)) (40 - 5 * t) (readBlock block))
 
 -- the whole record then: running until the eighth turn, and finished with it
 unfoldable pub standing : ℕ → List ℕ → List ℕ → ℕ → Lane
@@ -52,12 +52,12 @@ pub record Opening : Type 0 where
   pub block : List ℕ
   pub since : List Call
 
-abbrev pub asks : Opening → Call
-asks o = opening (o .lane) (o .direction) (o .key) (o .block)
+abbrev pub call : Opening → Call
+call o = opening (o .lane) (o .direction) (o .key) (o .block)
 
 -- all calls, and the bench after them
 abbrev pub calls : Opening → List Call
-calls o = o .before ++ asks o ∷ o .since
+calls o = o .before ++ call o ∷ o .since
 
 abbrev pub end : Opening → Bench
 end o = run freshBench (calls o)
@@ -67,7 +67,7 @@ abbrev pub finds : Opening → Bench
 finds o = run freshBench (o .before)
 
 abbrev pub left : Opening → Bench
-left o = leaves (finds o) (asks o)
+left o = leaves (finds o) (call o)
 
 -- the lanes served since, one for each turn made on the bench, and how many of these turns are the lane's own
 abbrev pub made : Opening → List ℕ
@@ -76,9 +76,9 @@ made o = log (left o) (o .since)
 abbrev pub own : Opening → ℕ
 own o = times (o .lane) (made o)
 
--- the opening is done; since then the lane was not closed; nor taken from
+-- the opening is done; since then the lane was not closed; since then it was neither closed nor taken from
 abbrev pub Accepted : Opening → Type 0
-Accepted o = codeOf (finds o) (asks o) ≡ 0
+Accepted o = codeOf (finds o) (call o) ≡ DONE
 
 abbrev pub Unclosed : Opening → Type 0
 Unclosed o = never (closes (o .lane)) (left o) (o .since) ≡ true
@@ -91,10 +91,10 @@ Kept o = never (releases (o .lane)) (left o) (o .since) ≡ true
 pub record Stands (o : Opening) : Type 0 where
   pub at-most : own o ≤ 8
   pub stands : laneAt (end o .lanes) (o .lane) ≡ standing (o .direction) (o .key) (o .block) (own o)
-  pub early : own o < 8 → (out : List ℕ) → (takeOf (end o) (o .lane) out ≡ record { code = 7; bench = end o }) × (takenBytes (end o) (o .lane) out ≡ out)
+  pub early : own o < 8 → (out : List ℕ) → (takeOf (end o) (o .lane) out ≡ record { code = LANE_NOT_FINISHED; made = 0; bench = end o }) × (takenBytes (end o) (o .lane) out ≡ out)
   pub ready : own o ≡ 8 → (out : List ℕ) → length out ≡ 16
-      → (takeOf (end o) (o .lane) out .code ≡ 0) × (takenBytes (end o) (o .lane) out ≡ answer (o .direction) (o .key) (o .block))
-  pub only-ready : (out : List ℕ) → takeOf (end o) (o .lane) out .code ≡ 0 → own o ≡ 8
+      → (takeOf (end o) (o .lane) out .code ≡ DONE) × (takenBytes (end o) (o .lane) out ≡ answer (o .direction) (o .key) (o .block))
+  pub only-ready : (out : List ℕ) → takeOf (end o) (o .lane) out .code ≡ DONE → own o ≡ 8
 
 -- Of a lane that was opened and not closed: among the first 32 turns made on the bench since, eight are its own.
 abbrev pub InTime : Opening → Type 0
@@ -124,11 +124,11 @@ pub record Turning (b : Bench) (asked : ℕ) : Type 0 where
 -- A refused call changes nothing lent, and tells no turn.
 pub record Refused (b : Bench) (c : Call) : Type 0 where
   pub bench : leaves b c ≡ b
-  pub buffer : holds b c ≡ lent c
+  pub buffer : (lane : ℕ) (out : List ℕ) → c ≡ taking lane out → takenBytes b lane out ≡ out
   pub turns : tells b c ≡ 0
   pub log : serves b c ≡ []
 
 -- A call changes no lane that it does not name, and only turns move the number of the lane last served.
 pub record Frame (b : Bench) (c : Call) : Type 0 where
   pub lanes : (n : ℕ) → names n c ≡ false → laneAt (leaves b c .lanes) n ≡ laneAt (b .lanes) n
-  pub last : isTurning c ≡ false → leaves b c .last ≡ b .last
+  pub last : asks c ≡ 0 → leaves b c .last ≡ b .last

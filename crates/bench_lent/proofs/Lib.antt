@@ -1,10 +1,16 @@
--- What the walks over lent records share.
-pub mod Again
-pub mod Rows
-pub mod Copying
-pub mod Answers
-pub mod Lending
-pub mod Refused
-pub mod Through
-pub mod Walk
+-- The laws.
+pub mod Looking
+pub mod Searching
+pub mod UnderWay
+pub mod Effects
+pub mod Answering
 pub mod OneOutcome
+pub mod Walk
+pub mod Again
+pub mod Plain
+pub mod Calling
+pub mod Records
+pub mod Lending
+pub mod Parts
+pub mod Steps
+pub mod Looping

@@ -1,53 +1,52 @@
--- No call over lent records has a second outcome: its contract as the source has it, and one law. The last served number comes back from a call for turns alone; in the others it stays.
-use mathlib.Core.Path.{_≡_, refl, sym, _∙_}
+-- No call over lent records has a second outcome: its promise, and one law. The last served number comes back from a call for turns alone; in the others it stays.
+use mathlib.Core.Path.{_≡_, refl}
 use mathlib.Core.Bool.{Bool, true, false, cond}
 use mathlib.Core.List.{List}
 use Prim.Native.Nat.{ℕ}
 use lib.Dec.{eqb}
-use Rattle.lane_record.specs.declared.Lane.{Lane}
+use Rattle.answers.proofs.Outcome.{one-answer}
+use Rattle.lane.specs.declared.Lane.{Lane}
 use Rattle.bench.specs.declared.Bench.{Bench}
-use Rattle.bench.specs.Calls.{put, idled, openOf, openCode, turnOf, takeOf, takeCode, takenBytes, closeOf, closeCode}
+use Rattle.bench.specs.Calls.{put, answered, openOf, takeOf, closeOf}
 use Rattle.bench_lent.specs.declared.Turns.{Turns}
-use Rattle.bench_lent.specs.Lent.{lent, turnsOf}
-
--- what is equal to one answer is equal to each other
-one : {A : Type 0} {answer x y : A} → x ≡ answer → y ≡ answer → x ≡ y
-one e f = e ∙ sym f
+use Rattle.bench_lent.specs.Lent.{benchOf, Opens, Serves, Takes, Closes}
 
 both : {A B : Type 0} {a x x′ : A} {b y y′ : B} → (x ≡ a) × (y ≡ b) → (x′ ≡ a) × (y′ ≡ b) → (x ≡ x′) × (y ≡ y′)
-both p q = (one (p .0) (q .0), one (p .1) (q .1))
+both p q = (one-answer (p .0) (q .0), one-answer (p .1) (q .1))
 
 module _ (ls : List Lane) (last lane direction asked : ℕ) (key block out : List ℕ) where
-  abbrev b : Bench
-  b = lent ls last
-
-  pub open-lane : (r r′ : ℕ) (e e′ : List Lane) → (r ≡ openOf b lane direction key block .code) × (e ≡ openOf b lane direction key block .bench .lanes)
-      → (r′ ≡ openOf b lane direction key block .code) × (e′ ≡ openOf b lane direction key block .bench .lanes) → (r ≡ r′) × (e ≡ e′)
+  pub open-lane : (r r′ : ℕ) (e e′ : List Lane) → Opens ls last lane direction key block r e → Opens ls last lane direction key block r′ e′ → (r ≡ r′) × (e ≡ e′)
   open-lane r r′ e e′ = both
 
-  pub turn : (r r′ : Turns) (e e′ : List Lane) → (r ≡ turnsOf (turnOf b asked)) × (e ≡ turnOf b asked .bench .lanes) → (r′ ≡ turnsOf (turnOf b asked)) × (e′ ≡ turnOf b asked .bench .lanes) → (r ≡ r′) × (e ≡ e′)
+  pub turn : (r r′ : Turns) (e e′ : List Lane) → Serves ls last asked r e → Serves ls last asked r′ e′ → (r ≡ r′) × (e ≡ e′)
   turn r r′ e e′ = both
 
-  pub take : (r r′ : ℕ) (e e′ : List Lane) (u u′ : List ℕ) → (r ≡ takeOf b lane out .code) × (e ≡ takeOf b lane out .bench .lanes) × (u ≡ takenBytes b lane out)
-      → (r′ ≡ takeOf b lane out .code) × (e′ ≡ takeOf b lane out .bench .lanes) × (u′ ≡ takenBytes b lane out) → (r ≡ r′) × (e ≡ e′) × (u ≡ u′)
-  take r r′ e e′ u u′ p q = (one (p .0) (q .0), one (p .1) (q .1), one (p .2) (q .2))
+  pub take : (r r′ : ℕ) (e e′ : List Lane) (u u′ : List ℕ) → Takes ls last lane out r e u → Takes ls last lane out r′ e′ u′ → (r ≡ r′) × (e ≡ e′) × (u ≡ u′)
+  take r r′ e e′ u u′ p q = let h = both (p .0) (q .0) in (h .0, h .1, one-answer (p .1) (q .1))
 
-  pub close : (r r′ : ℕ) (e e′ : List Lane) → (r ≡ closeOf b lane .code) × (e ≡ closeOf b lane .bench .lanes) → (r′ ≡ closeOf b lane .code) × (e′ ≡ closeOf b lane .bench .lanes) → (r ≡ r′) × (e ≡ e′)
+  pub close : (r r′ : ℕ) (e e′ : List Lane) → Closes ls last lane r e → Closes ls last lane r′ e′ → (r ≡ r′) × (e ≡ e′)
   close r r′ e e′ = both
 
+  abbrev b : Bench
+  b = benchOf ls last
+
   -- done or refused, the number is that of the bench that came in
-  either : (z : Bool) (c : Bench) → c .last ≡ last → cond z c b .last ≡ last
-  either true c e = e
-  either false c e = refl
+  stays : (number made : ℕ) (new : Bench) → new .last ≡ last → answered number made new b .bench .last ≡ last
+  unfolding answered
+  stays number made new e = go (eqb number 0)
+    where
+      go : (z : Bool) → cond z new b .last ≡ last
+      go true = e
+      go false = refl
 
   pub open-stays : openOf b lane direction key block .bench .last ≡ last
   unfolding openOf put
-  open-stays = either (eqb (openCode b lane direction key block) 0) _ refl
+  open-stays = stays _ _ _ refl
 
   pub take-stays : takeOf b lane out .bench .last ≡ last
-  unfolding takeOf idled put
-  take-stays = either (eqb (takeCode b lane out) 0) _ refl
+  unfolding takeOf put
+  take-stays = stays _ _ _ refl
 
   pub close-stays : closeOf b lane .bench .last ≡ last
-  unfolding closeOf idled put
-  close-stays = either (eqb (closeCode b lane) 0) _ refl
+  unfolding closeOf put
+  close-stays = stays _ _ _ refl

@@ -1,2 +1,3 @@
--- What a reader has to believe of the lent bench: how lent records are a bench.
+-- What a reader has to believe of the lent bench: how lent records are a bench, and what each call promises of it. What its parts promise is Inner.
 pub mod Lent
+pub mod Inner

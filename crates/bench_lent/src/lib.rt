@@ -1,16 +1,26 @@
 // The bench's calls over records that a host lends for the call: as many as there are lanes, or the answer is 10.
-// The records are copied out, the by-value call answers on them, and what it gives back is stored in their places.
-use bench::Bench;
+// The records are looked at where they lie, by loops that carry numbers alone, and a call changes the one record that it is about.
+use answers::DONE;
 use bench::LANES;
-use lane_record::Lane;
+use bench::after;
+use bench::orders::close_code;
+use bench::orders::open_code;
+use bench::orders::take_code;
+use bench::orders::turn_code;
+use lane::IDLE;
+use lane::Lane;
+use lane::RUNNING;
+use lane::idled;
+use lane::opened;
+use lane::served;
+use lane::sound_lane;
+use lane::yielded;
 ghost use mathlib.Core.Path.{_≡_};
-ghost use lib.ListN.{length};
-ghost use Rattle.bench.specs.Turning.{laneCount};
-ghost use Rattle.bench.specs.Calls.{openOf, turnOf, takeOf, takenBytes, closeOf};
-ghost use Rattle.bench_lent.specs.Lent.{lent, turnsOf};
-
-// How many records a host lends.
-const RECORDS: usize = LANES;
+ghost use Prim.Native.Nat.{_+_, _<_, _^_};
+ghost use lib.ListN.{length, set};
+ghost use Rattle.bench.specs.Turning.{laneCount, laneAt, seek, chosen, turned};
+ghost use Rattle.bench_lent.specs.Lent.{benchOf, Opens, Serves, Takes, Closes};
+ghost use Rattle.bench_lent.specs.Inner.{Starts, Notes, Sees, Passes, Begins, Goes, renewed};
 
 // What a call for turns tells: its number, the turns made, and the lane last served.
 #[repr(C)]
@@ -20,120 +30,192 @@ pub struct Turns {
     pub last: u32,
 }
 
-// What a by-value call answers, for every call alike. Only turns are made, and only they move the last served number.
-struct Answer {
-    code: u32,
-    made: u32,
-    last: u32,
-    lanes: [Lane; LANES],
+// ---- one record
+
+fn at(lanes: &mut [Lane], n: usize) -> Lane
+    requires { ⌜ n < length (now lanes) ⌝ }
+    ensures { λ r. ⌜ (r ≡ laneAt (now (lanes .entry)) n) × (now (lanes .exit) ≡ now (lanes .entry)) ⌝ }
+{
+    lanes[n]
 }
 
-fn opened(
-    all: [Lane; LANES],
-    last: u32,
-    lane: u32,
-    direction: u32,
-    key: &[u8],
-    block: &[u8],
-) -> Answer
-    ensures { λ r. ⌜ (r .code ≡ openOf (lent all last) lane direction (now (key .entry)) (now (block .entry)) .code)
-        × (r .lanes ≡ openOf (lent all last) lane direction (now (key .entry)) (now (block .entry)) .bench .lanes) ⌝ }
+fn put(lanes: &mut [Lane], n: usize, l: Lane)
+    requires { ⌜ n < length (now lanes) ⌝ }
+    ensures { λ r. ⌜ now (lanes .exit) ≡ set (now (lanes .entry)) n l ⌝ }
 {
-    let o = bench::open_lane(Bench { lanes: all, last }, lane, direction, key, block);
-    let b = o.bench;
-    let lanes = b.lanes;
-    Answer {
-        code: o.code,
-        made: 0,
-        last,
-        lanes,
+    lanes[n] = l;
+}
+
+// All of a record but its round words, which stay.
+fn renew(lanes: &mut [Lane], n: usize, l: Lane)
+    requires { ⌜ n < length (now lanes) ⌝ }
+    ensures { λ r. ⌜ now (lanes .exit) ≡ set (now (lanes .entry)) n (renewed (laneAt (now (lanes .entry)) n) l) ⌝ }
+{
+    lanes[n].phase = l.phase;
+    lanes[n].direction = l.direction;
+    lanes[n].count = l.count;
+    lanes[n].state = l.state;
+}
+
+// ---- looking
+
+// How far a look has come: the next record, or LANES when it is over; whether all was sound so far; and the phase of the lane that is named.
+struct Seen {
+    next: usize,
+    sound: bool,
+    phase: u8,
+}
+
+fn unseen(count: usize, last: u32) -> Seen
+    ensures { λ r. ⌜ Starts count last r ⌝ }
+{
+    if count == LANES {
+        if (last as usize) < LANES {
+            return Seen {
+                next: 0,
+                sound: true,
+                phase: IDLE,
+            };
+        }
+    }
+    Seen {
+        next: LANES,
+        sound: false,
+        phase: IDLE,
     }
 }
 
-fn turned(all: [Lane; LANES], last: u32, asked: u32) -> Answer
-    ensures { λ r. ⌜ (r .code ≡ turnOf (lent all last) asked .code)
-        × (r .made ≡ turnOf (lent all last) asked .made)
-        × (r .last ≡ turnOf (lent all last) asked .bench .last)
-        × (r .lanes ≡ turnOf (lent all last) asked .bench .lanes) ⌝ }
+// The next record looked at.
+fn noted(s: Seen, l: Lane, lane: u32) -> Seen
+    requires { ⌜ s .next < laneCount ⌝ }
+    ensures { λ r. ⌜ Notes s l lane r ⌝ }
 {
-    let t = bench::turn(Bench { lanes: all, last }, asked);
-    let b = t.bench;
-    let lanes = b.lanes;
-    Answer {
-        code: t.code,
-        made: t.made,
-        last: b.last,
-        lanes,
+    let ok = sound_lane(l);
+    let sound = s.sound && ok;
+    let next = s.next + 1;
+    if s.next == (lane as usize) {
+        return Seen {
+            next,
+            sound,
+            phase: l.phase,
+        };
+    }
+    Seen {
+        next,
+        sound,
+        phase: s.phase,
     }
 }
 
-fn taken(all: [Lane; LANES], last: u32, lane: u32, out: &mut [u8]) -> Answer
-    ensures { λ r. ⌜ (r .code ≡ takeOf (lent all last) lane (now (out .entry)) .code)
-        × (r .lanes ≡ takeOf (lent all last) lane (now (out .entry)) .bench .lanes)
-        × (now (out .exit) ≡ takenBytes (lent all last) lane (now (out .entry))) ⌝ }
+fn look(lanes: &mut [Lane], last: u32, lane: u32) -> Seen
+    ensures { λ r. ⌜ Sees (now (lanes .entry)) last lane r × (now (lanes .exit) ≡ now (lanes .entry)) ⌝ }
 {
-    let t = bench::take(Bench { lanes: all, last }, lane, out);
-    let b = t.bench;
-    let lanes = b.lanes;
-    Answer {
-        code: t.code,
-        made: 0,
-        last,
-        lanes,
+    let mut s = unseen(lanes.len(), last);
+    while s.next < LANES {
+        let l = lanes[s.next];
+        s = noted(s, l, lane);
     }
+    s
 }
 
-fn closed(all: [Lane; LANES], last: u32, lane: u32) -> Answer
-    ensures { λ r. ⌜ (r .code ≡ closeOf (lent all last) lane .code) × (r .lanes ≡ closeOf (lent all last) lane .bench .lanes) ⌝ }
-{
-    let c = bench::close(Bench { lanes: all, last }, lane);
-    let b = c.bench;
-    let lanes = b.lanes;
-    Answer {
-        code: c.code,
-        made: 0,
-        last,
-        lanes,
-    }
+// ---- searching
+
+// How far a search has come: the next lane, and how many are left to look at. With none left it is the lane found, or LANES.
+struct Place {
+    at: usize,
+    left: usize,
 }
 
-fn told(a: Answer) -> Turns
-    ensures { λ r. ⌜ (r .code ≡ a .code) × (r .made ≡ a .made) × (r .last ≡ a .last) ⌝ }
+fn passed(p: Place, l: Lane) -> Place
+    requires { ⌜ 0 < p .left ⌝ }
+    ensures { λ r. ⌜ Passes p l r ⌝ }
 {
-    Turns {
-        code: a.code,
-        made: a.made,
-        last: a.last,
+    if l.phase == RUNNING {
+        return Place { at: p.at, left: 0 };
     }
+    if 1 < p.left {
+        return Place {
+            at: after(p.at),
+            left: p.left - 1,
+        };
+    }
+    Place { at: LANES, left: 0 }
 }
 
-// The lent records, by value.
-fn gather(lanes: &mut [Lane]) -> [Lane; LANES]
+// The first running lane in cyclic order from one on, or LANES where none runs.
+fn seek(lanes: &mut [Lane], from: usize) -> usize
+    requires { ⌜ (length (now lanes) ≡ laneCount) × (from < laneCount) ⌝ }
+    ensures { λ r. ⌜ (r ≡ seek laneCount (now (lanes .entry)) from) × (now (lanes .exit) ≡ now (lanes .entry)) ⌝ }
+{
+    let mut p = Place {
+        at: from,
+        left: LANES,
+    };
+    while 0 < p.left {
+        let l = lanes[p.at];
+        p = passed(p, l);
+    }
+    p.at
+}
+
+// ---- turns
+
+// One turn: the lane that it serves, or LANES where none runs.
+fn turn_once(lanes: &mut [Lane], last: u32) -> usize
     requires { ⌜ length (now lanes) ≡ laneCount ⌝ }
-    ensures { λ r. ⌜ (r ≡ now (lanes .entry)) × (now (lanes .exit) ≡ now (lanes .entry)) ⌝ }
+    ensures { λ r. ⌜ (r ≡ chosen (benchOf (now (lanes .entry)) last)) × (now (lanes .exit) ≡ turned (benchOf (now (lanes .entry)) last) .lanes) ⌝ }
 {
-    let mut all = [lanes[0]; LANES];
-    let mut i: usize = 0;
-    while i < LANES {
-        all[i] = lanes[i];
-        i += 1;
+    let n = seek(lanes, after(last as usize));
+    if LANES <= n {
+        return n;
     }
-    all
+    let l = at(lanes, n);
+    renew(lanes, n, served(l));
+    n
 }
 
-// Each record of an answer to its place; the answer's number.
-fn scatter(lanes: &mut [Lane], a: Answer) -> u32
-    requires { ⌜ length (now lanes) ≡ laneCount ⌝ }
-    ensures { λ r. ⌜ (r ≡ a .code) × (now (lanes .exit) ≡ a .lanes) ⌝ }
-{
-    let all = a.lanes;
-    let mut to: usize = 0;
-    while to < LANES {
-        lanes[to] = all[to];
-        to += 1;
-    }
-    a.code
+// How far the turns of a call have come: what is told of them, and how many are left to make.
+struct Run {
+    told: Turns,
+    left: u32,
 }
+
+fn begun(sound: bool, last: u32, asked: u32) -> Run
+    ensures { λ r. ⌜ Begins sound last asked r ⌝ }
+{
+    let code = turn_code(sound, asked);
+    let told = Turns {
+        code,
+        made: 0,
+        last,
+    };
+    if code != DONE {
+        return Run { told, left: 0 };
+    }
+    Run { told, left: asked }
+}
+
+// A turn made in lane n; or none, where n is LANES, and then no more are made.
+fn went(s: Run, n: usize) -> Run
+    requires { ⌜ (0 < s .left) × (s .told .made + s .left < 2 ^ 32) ⌝ }
+    ensures { λ r. ⌜ Goes s n r ⌝ }
+{
+    let t = s.told;
+    if LANES <= n {
+        return Run { told: t, left: 0 };
+    }
+    let told = Turns {
+        code: t.code,
+        made: t.made + 1,
+        last: n as u32,
+    };
+    Run {
+        told,
+        left: s.left - 1,
+    }
+}
+
+// ---- the calls
 
 pub fn open_lane(
     lanes: &mut [Lane],
@@ -143,55 +225,54 @@ pub fn open_lane(
     key: &[u8],
     block: &[u8],
 ) -> u32
-    ensures { λ r. ⌜ (r ≡ openOf (lent (now (lanes .entry)) last) lane direction (now (key .entry)) (now (block .entry)) .code)
-        × (now (lanes .exit) ≡ openOf (lent (now (lanes .entry)) last) lane direction (now (key .entry)) (now (block .entry)) .bench .lanes) ⌝ }
+    ensures { λ r. ⌜ Opens (now (lanes .entry)) last lane direction (now (key .entry)) (now (block .entry)) r (now (lanes .exit)) ⌝ }
 {
-    if lanes.len() != RECORDS {
-        return 10;
+    let s = look(lanes, last, lane);
+    let code = open_code(s.sound, lane, s.phase, direction, key.len(), block.len());
+    if code != DONE {
+        return code;
     }
-    let all = gather(lanes);
-    let a = opened(all, last, lane, direction, key, block);
-    scatter(lanes, a)
+    put(lanes, lane as usize, opened(direction as u8, key, block));
+    code
 }
 
 pub fn turn(lanes: &mut [Lane], last: u32, asked: u32) -> Turns
-    ensures { λ r. ⌜ (r ≡ turnsOf (turnOf (lent (now (lanes .entry)) last) asked))
-        × (now (lanes .exit) ≡ turnOf (lent (now (lanes .entry)) last) asked .bench .lanes) ⌝ }
+    ensures { λ r. ⌜ Serves (now (lanes .entry)) last asked r (now (lanes .exit)) ⌝ }
 {
-    if lanes.len() != RECORDS {
-        return Turns {
-            code: 10,
-            made: 0,
-            last,
-        };
+    let s = look(lanes, last, last);
+    let mut r = begun(s.sound, last, asked);
+    while 0 < r.left {
+        let n = turn_once(lanes, r.told.last);
+        r = went(r, n);
     }
-    let all = gather(lanes);
-    let a = turned(all, last, asked);
-    scatter(lanes, a);
-    told(a)
+    r.told
 }
 
 pub fn take(lanes: &mut [Lane], last: u32, lane: u32, out: &mut [u8]) -> u32
-    ensures { λ r. ⌜ (r ≡ takeOf (lent (now (lanes .entry)) last) lane (now (out .entry)) .code)
-        × (now (lanes .exit) ≡ takeOf (lent (now (lanes .entry)) last) lane (now (out .entry)) .bench .lanes)
-        × (now (out .exit) ≡ takenBytes (lent (now (lanes .entry)) last) lane (now (out .entry))) ⌝ }
+    ensures { λ r. ⌜ Takes (now (lanes .entry)) last lane (now (out .entry)) r (now (lanes .exit)) (now (out .exit)) ⌝ }
 {
-    if lanes.len() != RECORDS {
-        return 10;
+    let s = look(lanes, last, lane);
+    let code = take_code(s.sound, lane, s.phase, out.len());
+    if code != DONE {
+        return code;
     }
-    let all = gather(lanes);
-    let a = taken(all, last, lane, out);
-    scatter(lanes, a)
+    let i = lane as usize;
+    let l = at(lanes, i);
+    yielded(l, out);
+    renew(lanes, i, idled(l));
+    code
 }
 
 pub fn close(lanes: &mut [Lane], last: u32, lane: u32) -> u32
-    ensures { λ r. ⌜ (r ≡ closeOf (lent (now (lanes .entry)) last) lane .code)
-        × (now (lanes .exit) ≡ closeOf (lent (now (lanes .entry)) last) lane .bench .lanes) ⌝ }
+    ensures { λ r. ⌜ Closes (now (lanes .entry)) last lane r (now (lanes .exit)) ⌝ }
 {
-    if lanes.len() != RECORDS {
-        return 10;
+    let s = look(lanes, last, lane);
+    let code = close_code(s.sound, lane);
+    if code != DONE {
+        return code;
     }
-    let all = gather(lanes);
-    let a = closed(all, last, lane);
-    scatter(lanes, a)
+    let i = lane as usize;
+    let l = at(lanes, i);
+    renew(lanes, i, idled(l));
+    code
 }

@@ -1,11 +1,11 @@
 // One record of the file of calls: makes the call on a bench, and compares what came of it with what the record says. oracle/bench_model.py has the layout.
 use bench::Bench;
 use check::same;
-use lane_record::Lane;
+use lane::Lane;
 use packing::packing;
 use primitives::State;
-ghost use Prim.Native.Nat.{_<_};
 ghost use mathlib.Core.Path.{_≡_};
+ghost use Prim.Native.Nat.{_<_};
 ghost use lib.ListN.{length};
 
 // What came of a call. Only turn tells turns, and only take has a buffer; else there are none told, and nothing in the buffer.
@@ -25,6 +25,10 @@ pub(crate) fn byte_at(s: &[u8], i: usize) -> u8 {
 
 fn wide(b: u8) -> u32 {
     b as u32
+}
+
+fn wide_count(b: u8) -> u16 {
+    b as u16
 }
 
 pub(crate) fn word_at(s: &[u8], i: usize) -> u32
@@ -118,7 +122,7 @@ fn put_lane(l: Lane, i: usize, r: &[u8], pool: &[u8]) -> Lane
     Lane {
         phase: byte_at(r, 18 + i),
         direction: byte_at(r, 22 + i),
-        count: byte_at(r, 26 + i),
+        count: wide_count(byte_at(r, 26 + i)),
         words,
         state,
     }
@@ -157,7 +161,7 @@ fn lane_agrees(l: Lane, i: usize, r: &[u8]) -> bool
     if l.direction != byte_at(r, 22 + i) {
         return false;
     }
-    l.count == byte_at(r, 26 + i)
+    l.count == wide_count(byte_at(r, 26 + i))
 }
 
 fn lanes_agree(lanes: [Lane; 4], r: &[u8]) -> bool {

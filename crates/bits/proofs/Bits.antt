@@ -5,14 +5,17 @@ use mathlib.Core.Logic.{⊎-elim}
 use Prim.Native.Nat.{ℕ, zero, suc, _+_, _-_, _*_, _/_, _%_, _^_, _≤_, _<_}
 use native.Mathlib.Nat.{le-refl, le-step, zero-lt-suc, le-of-suc-le-suc, not-suc-le-zero, eq-or-lt-of-le, ne-of-lt, zero-add, zero-mul, add-left-comm, add-sub-of-le, mod-lt}
 use lib.Bits.{bitAnd, bitOr, bitXor, and-shr, or-shr, xor-shr, and-mod, or-mod, xor-mod}
-use borrow.Author.Tests.{leb-true, leb-false}
-use lib.Dec.{leb, lit<}
+use lib.Dec.{eqb, leb, lit<}
 use lib.Pow.{pow-pos}
-use Rattle.bits.specs.Digit.{digit, number, isOne, one, bit, ofBits, _⊕_}
+use borrow.Author.Tests.{leb-true, leb-false}
+use Rattle.bits.specs.Digit.{digit, number, one, bit, ofBits, _⊕_}
 use Rattle.bits.proofs.Digits.{number-cong, number-lt, number-digit, digit-lt, digit-number, digit-below, digit-out, digit-shr, digit-shl, digit-shl-low, digit-mod, digit-digit}
 
 two : zero < 2
 two = zero-lt-suc 1
+
+abbrev isOne : ℕ → Bool
+isOne d = eqb d 1
 
 isOne-one : (b : Bool) → isOne (one b) ≡ b
 isOne-one false = refl

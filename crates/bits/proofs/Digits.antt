@@ -3,8 +3,8 @@ use mathlib.Core.Path.{_≡_, refl, sym, ap, ap₂, _∙_}
 use mathlib.Core.Logic.{⊎-elim}
 use Prim.Native.Nat.{ℕ, zero, suc, _+_, _*_, _/_, _%_, _^_, _≤_, _<_}
 use native.Mathlib.Nat.{le-refl, le-dest, le-step, le-of-suc-le-suc, not-suc-le-zero, eq-or-lt-of-le, lt-of-lt-of-le, one-le-pow, pow-le-pow-right, pow-zero, pow-suc, pow-succ', mul-zero, mul-suc, mul-assoc, add-comm, add-zero, zero-mod, mod-one, mod-lt, mod-eq-of-lt, div-eq-of-lt, div-add-mod', div-div-eq-div-mul, mul-add-div-right, mul-add-mod-self-right, mul-div-cancel}
-use lib.Pow.{pow-add}
 use lib.Arith.{digits-lt, digits-div, mod-mul}
+use lib.Pow.{pow-add}
 use Rattle.bits.specs.Digit.{digit, number}
 
 pub pow-mul : (b k i : ℕ) → (b ^ k) ^ i ≡ b ^ (k * i)

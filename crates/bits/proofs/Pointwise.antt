@@ -3,9 +3,9 @@ use mathlib.Core.Path.{_≡_, refl, ap₂, _∙_}
 use mathlib.Core.Bool.{Bool, true, false, not, _&&_, _||_}
 use mathlib.Core.List.{List}
 use Prim.Native.Nat.{ℕ, _/_, _%_, _^_, _<_}
-use lib.Dec.{T}
+use lib.Dec.{T, eqb}
 use lib.ListN.{getD}
-use Rattle.bits.specs.Digit.{digit, isOne, bit, _⊕_}
+use Rattle.bits.specs.Digit.{digit, bit, _⊕_}
 use Rattle.bits.proofs.Bits.{bit-and, bit-or, bit-xor, ⊕-equal}
 use Rattle.bits.proofs.Computed.{below, at, and-left, and-right}
 use Rattle.bits.proofs.Reflect.{W, var, lit, and, or, xor, shr, shl, low, value}
@@ -13,7 +13,7 @@ use Rattle.bits.proofs.Reflect.{W, var, lit, and, or, xor, shr, shl, lo
 -- no shift, and every literal all ones or all zeros in w bits
 abbrev pub flat : ℕ → W → Bool
 flat w (var k) = true
-flat w (lit n) = below w (λ i. not (isOne (n / 2 ^ i % 2) ⊕ isOne (n % 2)))
+flat w (lit n) = below w (λ i. not (eqb (n / 2 ^ i % 2) 1 ⊕ eqb (n % 2) 1))
 flat w (and a b) = flat w a && flat w b
 flat w (or a b) = flat w a && flat w b
 flat w (xor a b) = flat w a && flat w b
@@ -24,7 +24,7 @@ flat w (low e k) = false
 -- one bit of the value, where variable k has the bit f k
 abbrev pub on-bits : W → (ℕ → Bool) → Bool
 on-bits (var k) f = f k
-on-bits (lit n) f = isOne (n % 2)
+on-bits (lit n) f = eqb (n % 2) 1
 on-bits (and a b) f = on-bits a f && on-bits b f
 on-bits (or a b) f = on-bits a f || on-bits b f
 on-bits (xor a b) f = on-bits a f ⊕ on-bits b f
@@ -37,7 +37,7 @@ module _ (w : ℕ) (ρ : List ℕ) (i : ℕ) (h : i < w) where
   unfolding bit digit
   pointwise (var k) t = refl
   pointwise (lit n) t =
-      ⊕-equal (isOne (n / 2 ^ i % 2)) (isOne (n % 2)) (is-false (isOne (n / 2 ^ i % 2) ⊕ isOne (n % 2)) (at w (λ j. not (isOne (n / 2 ^ j % 2) ⊕ isOne (n % 2))) t i h))
+      ⊕-equal (eqb (n / 2 ^ i % 2) 1) (eqb (n % 2) 1) (is-false (eqb (n / 2 ^ i % 2) 1 ⊕ eqb (n % 2) 1) (at w (λ j. not (eqb (n / 2 ^ j % 2) 1 ⊕ eqb (n % 2) 1)) t i h))
     where
       is-false : (b : Bool) → T (not b) → b ≡ false
       is-false false t = refl

@@ -9,7 +9,7 @@ use lib.Bits.{bitAnd, bitOr, bitXor, and-lt, or-lt, xor-lt}
 use lib.Dec.{T, eqb, eqb→eq, ltb, ltb→lt, nltb→le, leb, leb→le}
 use lib.ListN.{getD}
 use lib.Pow.{pow-pos, pow-mono}
-use Rattle.bits.specs.Digit.{digit, isOne, bit, ofBits, _⊕_}
+use Rattle.bits.specs.Digit.{digit, bit, ofBits, _⊕_}
 use Rattle.bits.proofs.Bits.{bit-out, bit-shr, bit-shl, bit-shl-low, bit-mod, bit-mod-out, bit-and, bit-or, bit-xor, bit-ext, bit-ofBits, ofBits-lt, ⊕-false, ⊕-self, ⊕-assoc, ⊕-comm, ⊕-equal}
 use Rattle.bits.proofs.Computed.{below, at, and-left, and-right}
 
@@ -118,7 +118,7 @@ isZero unknown = false
 -- what can be told of bit i of an expression: vs the variables' widths, w the words' width
 abbrev pub known-bit : List ℕ → ℕ → W → ℕ → S
 known-bit vs w (var k) i = pick (ltb i (getD vs k 0)) (atom k i) zeroS
-known-bit vs w (lit n) i = known (isOne (n / 2 ^ i % 2)) []
+known-bit vs w (lit n) i = known (eqb (n / 2 ^ i % 2) 1) []
 known-bit vs w (and a b) i = andS (known-bit vs w a i) (known-bit vs w b i)
 known-bit vs w (or a b) i = orS (known-bit vs w a i) (known-bit vs w b i)
 known-bit vs w (xor a b) i = xorS (known-bit vs w a i) (known-bit vs w b i)
@@ -284,7 +284,7 @@ module _ (vs ρ : List ℕ) (w : ℕ) (inside : Within vs ρ) where
   sound (var k) i =
       pick-says ρ (ltb i (getD vs k 0)) (atom k i) (bit (getD ρ k 0) i) (λ t. refl)
       (λ t. bit-out (getD vs k 0) (getD ρ k 0) i (within-at vs ρ inside k) (nltb→le i (getD vs k 0) t))
-  sound (lit n) i = sym (⊕-false (isOne (n / 2 ^ i % 2)))
+  sound (lit n) i = sym (⊕-false (eqb (n / 2 ^ i % 2) 1))
   sound (and a b) i =
       rw bit-and (and-says ρ (known-bit vs w a i) (known-bit vs w b i) (bit (value w ρ a) i) (bit (value w ρ b) i) (sound a i) (sound b i))
   sound (or a b) i =

@@ -1,30 +1,30 @@
 -- A block packed, taken through rounds and unpacked; and round words that come from a key.
 use mathlib.Core.Path.{_≡_, refl, ap, _∙_}
-use mathlib.Core.Bool.{Bool, true, false, cond}
+use mathlib.Core.Bool.{Bool, true, false}
 use mathlib.Core.List.{List}
 use Prim.Native.Nat.{ℕ, _^_, _<_}
-use borrow.Author.Tests.{eq-eqb, le-leb}
-use lib.Dec.{eqb, lit≤}
+use lib.Dec.{lit≤}
 use lib.ListN.{length, take, replicate}
+use borrow.Author.Tests.{le-leb}
+use Rattle.answers.specs.Order.{ifDone}
 use Rattle.bits.proofs.Computed.{cond-true}
-use Rattle.published.specs.Bytes.{fromBytes, toBytes}
-use Rattle.published.specs.Rounds.{Pair, rounds, unrounds}
-use Rattle.published.specs.Gift128.{pairsOf, encrypted, decrypted}
-use Rattle.published.proofs.Reading.{Bytes}
+use Rattle.published.specs.Bytes.{fromBytes, toBytes, Bytes}
+use Rattle.published.specs.Rounds.{Pair}
+use Rattle.published.specs.Gift128.{pairsOf, rounds128, unrounds128, encrypted, decrypted}
 use Rattle.published.proofs.Steps.{width128}
 use Rattle.published.proofs.Undone.{rounds-lt, unrounds-lt}
 use Rattle.published.proofs.Gift128.{block-lt}
 use Rattle.primitives.specs.Packed.{blockOf, stateOf}
-use Rattle.primitives.specs.Arranged.{pairsFrom}
 use Rattle.primitives.specs.declared.State.{State}
 use Rattle.primitives.proofs.Blocks.{blockOf-stateOf}
-use Rattle.primitives.proofs.Pairs.{first-pair}
-use Rattle.quintuple.specs.Quintuple.{firstRound}
+use Rattle.round_words.specs.Arranged.{pairsFrom}
+use Rattle.round_words.proofs.Pairs.{first-pair}
 use Rattle.packing.specs.Packing.{packed, unpacked}
 use Rattle.packing.proofs.Inverse.{packed-block, unpacked-block}
+use Rattle.quintuple.specs.Quintuple.{firstRound}
 use Rattle.key_schedule.specs.Expand.{expandCode, expanded}
 use Rattle.key_schedule.proofs.Expanded.{pairs-of-expanded, length-expanded}
-use Rattle.gift128.specs.Calls.{encryptedBy, decryptedBy, newWords}
+use Rattle.gift128.specs.Calls.{encryptedBy, decryptedBy}
 use Rattle.gift128.specs.Ways.{roundsBy, crossedBy, crossed}
 
 -- what f does to the state, the call does to the bytes
@@ -48,26 +48,17 @@ crossing true ws s t input output e len h len′ packs goes unpacks =
 -- by the words of a key it is the published cipher
 pub crossed-key : (back : Bool) (key block : List ℕ) → crossedBy back (expanded key) block ≡ crossed back key block
 unfolding encryptedBy encrypted decryptedBy decrypted
-crossed-key false key block = ap (λ (ps : List Pair). toBytes 16 (rounds 128 1 ps 0 (fromBytes block))) (pairs-of-expanded key)
-crossed-key true key block = ap (λ (ps : List Pair). toBytes 16 (unrounds 128 1 ps 0 (fromBytes block))) (pairs-of-expanded key)
+crossed-key false key block = ap (λ (ps : List Pair). toBytes 16 (rounds128 ps 0 (fromBytes block))) (pairs-of-expanded key)
+crossed-key true key block = ap (λ (ps : List Pair). toBytes 16 (unrounds128 ps 0 (fromBytes block))) (pairs-of-expanded key)
 
--- eighty words lent to expansion by a good key become the key's; by a bad one they stay
-pub filled : (key ws : List ℕ) → length key ≡ 16 → length ws ≡ 80 → cond (eqb (expandCode key ws) 0) (expanded key) ws ≡ expanded key
+-- eighty zeros lent to expansion by a good key become the key's words
+pub filled : (key : List ℕ) → length key ≡ 16 → ifDone (expandCode (length key) 80) (expanded key) (replicate 80 0) ≡ expanded key
 unfolding expandCode
-filled key ws k w =
-    cond-true _ _ _ (ap (λ (n : ℕ). eqb n 0) (cond-true _ _ _ (eq-eqb (length key) 16 k) ∙ cond-true _ _ _ (eq-eqb (length ws) 80 w)))
-
-pub new-words : (key : List ℕ) → cond (eqb (expandCode key (replicate 80 0)) 0) (expanded key) (replicate 80 0) ≡ newWords key
-unfolding expandCode newWords
-new-words key = go (eqb (length key) 16)
-  where
-    go : (b : Bool) → cond (eqb (cond b 0 1) 0) (expanded key) (replicate 80 0) ≡ cond b (expanded key) (replicate 80 0)
-    go true = refl
-    go false = refl
+filled key k = rw k
 
 -- round 1 by the words of a key
-pub first-of-key : (key : List ℕ) (s : State) → firstRound s (expanded key) ≡ stateOf (rounds 128 1 (take 1 (pairsOf key)) 0 (blockOf s))
+pub first-of-key : (key : List ℕ) (s : State) → firstRound s (expanded key) ≡ stateOf (rounds128 (take 1 (pairsOf key)) 0 (blockOf s))
 unfolding firstRound
 first-of-key key s =
     cond-true _ _ _ (le-leb 2 (length (expanded key)) (rw length-expanded (lit≤ tt)))
-    ∙ ap (λ (ps : List Pair). stateOf (rounds 128 1 ps 0 (blockOf s))) (first-pair (expanded key) ∙ ap (take 1) (pairs-of-expanded key))
+    ∙ ap (λ (ps : List Pair). stateOf (rounds128 ps 0 (blockOf s))) (first-pair (expanded key) ∙ ap (take 1) (pairs-of-expanded key))

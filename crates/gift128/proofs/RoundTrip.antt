@@ -3,13 +3,14 @@ use mathlib.Core.Path.{_≡_, sym, ap, _∙_}
 use mathlib.Core.List.{List}
 use Prim.Native.Nat.{ℕ}
 use lib.ListN.{length}
-use Rattle.published.specs.Bytes.{fromBytes, toBytes}
-use Rattle.published.specs.Rounds.{Pair, rounds, unrounds}
-use Rattle.published.proofs.Reading.{Bytes, from-to, to-from}
+use Rattle.published.specs.Bytes.{fromBytes, toBytes, Bytes}
+use Rattle.published.specs.Rounds.{Pair}
+use Rattle.published.specs.Gift128.{rounds128, unrounds128}
+use Rattle.published.proofs.Reading.{from-to, to-from}
 use Rattle.published.proofs.Steps.{width128}
 use Rattle.published.proofs.Undone.{rounds-lt, unrounds-lt, unrounds-rounds, rounds-unrounds}
 use Rattle.published.proofs.Gift128.{block-lt}
-use Rattle.primitives.specs.Arranged.{pairsFrom}
+use Rattle.round_words.specs.Arranged.{pairsFrom}
 use Rattle.gift128.specs.Calls.{encryptedBy, decryptedBy}
 
 module _ (ws block : List ℕ) (len : length block ≡ 16) (h : Bytes block) where
@@ -25,13 +26,13 @@ module _ (ws block : List ℕ) (len : length block ≡ 16) (h : Bytes block) whe
   pub decrypted-again : decryptedBy ws (encryptedBy ws block) ≡ block
   unfolding encryptedBy decryptedBy
   decrypted-again =
-      ap (λ (y : ℕ). toBytes 16 (unrounds 128 1 ps 0 y)) (from-to 16 (rounds 128 1 ps 0 x) (rounds-lt 128 1 width128 ps 0 x (block-lt block len h)))
+      ap (λ (y : ℕ). toBytes 16 (unrounds128 ps 0 y)) (from-to 16 (rounds128 ps 0 x) (rounds-lt 128 1 width128 ps 0 x (block-lt block len h)))
       ∙ ap (toBytes 16) (unrounds-rounds 128 1 width128 ps 0 x (block-lt block len h))
       ∙ whole
 
   pub encrypted-again : encryptedBy ws (decryptedBy ws block) ≡ block
   unfolding encryptedBy decryptedBy
   encrypted-again =
-      ap (λ (y : ℕ). toBytes 16 (rounds 128 1 ps 0 y)) (from-to 16 (unrounds 128 1 ps 0 x) (unrounds-lt 128 1 width128 ps 0 x (block-lt block len h)))
+      ap (λ (y : ℕ). toBytes 16 (rounds128 ps 0 y)) (from-to 16 (unrounds128 ps 0 x) (unrounds-lt 128 1 width128 ps 0 x (block-lt block len h)))
       ∙ ap (toBytes 16) (rounds-unrounds 128 1 width128 ps 0 x (block-lt block len h))
       ∙ whole

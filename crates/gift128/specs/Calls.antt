@@ -1,38 +1,54 @@
--- What each call answers: its number, by its refusals in document 01's order, and what then stands in the buffer that was lent to it.
-use mathlib.Core.Bool.{cond}
+-- What each call promises: its number, by its refusals in document 01's order, and what then stands in the buffer that was lent to it.
 use mathlib.Core.List.{List, [], _++_}
 use Prim.Native.Nat.{ℕ, zero, suc, _/_, _%_}
 use lib.Dec.{eqb}
 use lib.ListN.{length, take, drop, replicate}
-use Rattle.published.specs.Bytes.{fromBytes, toBytes}
-use Rattle.published.specs.Rounds.{rounds, unrounds}
-use Rattle.published.specs.Gift128.{pairsOf}
-use Rattle.primitives.specs.Arranged.{pairsFrom}
+use Rattle.answers.specs.Numbers.{DONE, BAD_KEY_LENGTH, BAD_BLOCK_LENGTH, BAD_OUTPUT_LENGTH, BAD_WORD_COUNT}
+use Rattle.answers.specs.Order.{unless, ifDone}
+use Rattle.answers.specs.Outcome.{Gives}
+use Rattle.published.specs.Bytes.{readBlock, writeBlock}
+use Rattle.published.specs.Gift128.{pairsOf, rounds128, unrounds128, encrypted, decrypted}
+use Rattle.round_words.specs.Arranged.{pairsFrom}
 use Rattle.key_schedule.specs.Expand.{expanded}
 
--- the numbers: one block by a `Gift128`, by a key, by round words; many blocks by a key
-unfoldable pub blockCode : List ℕ → ℕ
-blockCode block = cond (eqb (length block) 16) 0 2
+-- ---- the numbers, by the lengths of what is lent
 
-unfoldable pub keyCode : List ℕ → List ℕ → ℕ
-keyCode key block = cond (eqb (length key) 16) (blockCode block) 1
+-- one block by a `Gift128`: 2
+unfoldable pub blockCode : (block : ℕ) → ℕ
+blockCode block = unless (eqb block 16) BAD_BLOCK_LENGTH DONE
 
-unfoldable pub wordsCode : List ℕ → List ℕ → ℕ
-wordsCode ws block = cond (eqb (length ws) 80) (blockCode block) 4
+-- by a key: 1, 2
+unfoldable pub keyCode : (key block : ℕ) → ℕ
+keyCode key block = unless (eqb key 16) BAD_KEY_LENGTH (blockCode block)
 
-unfoldable pub manyCode : List ℕ → List ℕ → List ℕ → ℕ
-manyCode key input output = cond (eqb (length key) 16) (cond (eqb (length input % 16) 0) (cond (eqb (length output) (length input)) 0 3) 2) 1
+-- by round words: 4, 2
+unfoldable pub wordsCode : (words block : ℕ) → ℕ
+wordsCode words block = unless (eqb words 80) BAD_WORD_COUNT (blockCode block)
+
+-- many blocks by a key: 1, 2, 3
+unfoldable pub manyCode : (key input output : ℕ) → ℕ
+manyCode key input output =
+    unless (eqb key 16) BAD_KEY_LENGTH
+    (unless (eqb (input % 16) 0) BAD_BLOCK_LENGTH
+    (unless (eqb output input) BAD_OUTPUT_LENGTH
+    DONE))
+
+-- making a `Gift128` from a key: 1
+unfoldable pub newCode : (key : ℕ) → ℕ
+newCode key = unless (eqb key 16) BAD_KEY_LENGTH DONE
+
+-- ---- what a call that is done leaves
 
 -- a block by eighty round words, whatever they are: the published rounds by the pairs that they stand for
 unfoldable pub encryptedBy : List ℕ → List ℕ → List ℕ
-encryptedBy ws block = toBytes 16 (rounds 128 1 (pairsFrom 0 ws) 0 (fromBytes block))
+encryptedBy ws block = writeBlock (rounds128 (pairsFrom 0 ws) 0 (readBlock block))
 
 unfoldable pub decryptedBy : List ℕ → List ℕ → List ℕ
-decryptedBy ws block = toBytes 16 (unrounds 128 1 (pairsFrom 0 ws) 0 (fromBytes block))
+decryptedBy ws block = writeBlock (unrounds128 (pairsFrom 0 ws) 0 (readBlock block))
 
 -- the state after round 1
 unfoldable pub afterOne : List ℕ → List ℕ → List ℕ
-afterOne key block = toBytes 16 (rounds 128 1 (take 1 (pairsOf key)) 0 (fromBytes block))
+afterOne key block = writeBlock (rounds128 (take 1 (pairsOf key)) 0 (readBlock block))
 
 -- n blocks, block i of the answer from block i of the input
 unfoldable pub eachBlock : (List ℕ → List ℕ) → ℕ → List ℕ → List ℕ
@@ -42,9 +58,39 @@ eachBlock f (suc n) input = f (take 16 input) ++ eachBlock f n (drop 16 input)
 unfoldable pub allBlocks : (List ℕ → List ℕ) → List ℕ → List ℕ
 allBlocks f input = eachBlock f (length input / 16) input
 
--- the number and the words of a `Gift128` made from a key
-unfoldable pub newCode : List ℕ → ℕ
-newCode key = cond (eqb (length key) 16) 0 1
+-- ---- the promises: the number, and what the lent buffer holds at exit
 
-unfoldable pub newWords : List ℕ → List ℕ
-newWords key = cond (eqb (length key) 16) (expanded key) (replicate 80 0)
+abbrev pub EncryptsByKey : (key block : List ℕ) → ℕ → List ℕ → Type 0
+EncryptsByKey key block = Gives (keyCode (length key) (length block)) (encrypted key block) block
+
+abbrev pub DecryptsByKey : (key block : List ℕ) → ℕ → List ℕ → Type 0
+DecryptsByKey key block = Gives (keyCode (length key) (length block)) (decrypted key block) block
+
+abbrev pub EncryptsByWords : (words block : List ℕ) → ℕ → List ℕ → Type 0
+EncryptsByWords words block = Gives (wordsCode (length words) (length block)) (encryptedBy words block) block
+
+abbrev pub DecryptsByWords : (words block : List ℕ) → ℕ → List ℕ → Type 0
+DecryptsByWords words block = Gives (wordsCode (length words) (length block)) (decryptedBy words block) block
+
+abbrev pub EncryptsBlocks : (key input output : List ℕ) → ℕ → List ℕ → Type 0
+EncryptsBlocks key input output = Gives (manyCode (length key) (length input) (length output)) (allBlocks (encrypted key) input) output
+
+abbrev pub DecryptsBlocks : (key input output : List ℕ) → ℕ → List ℕ → Type 0
+DecryptsBlocks key input output = Gives (manyCode (length key) (length input) (length output)) (allBlocks (decrypted key) input) output
+
+abbrev pub MakesOneRound : (key block : List ℕ) → ℕ → List ℕ → Type 0
+MakesOneRound key block = Gives (keyCode (length key) (length block)) (afterOne key block) block
+
+-- a `Gift128`: the number and the words of one that is made from a key, and the block by the words that it keeps
+abbrev pub MakesCipher : (key : List ℕ) → ℕ → List ℕ → Type 0
+MakesCipher key = Gives (newCode (length key)) (expanded key) (replicate 80 0)
+
+abbrev pub EncryptsBlock : (words block : List ℕ) → ℕ → List ℕ → Type 0
+EncryptsBlock words block = Gives (blockCode (length block)) (encryptedBy words block) block
+
+abbrev pub DecryptsBlock : (words block : List ℕ) → ℕ → List ℕ → Type 0
+DecryptsBlock words block = Gives (blockCode (length block)) (decryptedBy words block) block
+
+-- the words of a cipher made from any key
+abbrev pub newWords : List ℕ → List ℕ
+newWords key = ifDone (newCode (length key)) (expanded key) (replicate 80 0)

@@ -1,23 +1,29 @@
 // GIFT-128: one block and many, by a key, by round words and by a `Gift128`. The two block functions of lib.rs, with refusals.
-ghost use mathlib.Core.Path.{_≡_};
-ghost use denote.Ref.{now};
-ghost use Prim.Native.Nat.{_%_};
-ghost use lib.ListN.{length};
-ghost use Rattle.published.specs.Rounds.{rounds, unrounds};
-ghost use Rattle.published.specs.Gift128.{encrypted, decrypted};
-ghost use Rattle.primitives.specs.Packed.{blockOf, stateOf};
-ghost use Rattle.primitives.specs.Arranged.{pairsFrom};
-ghost use Rattle.primitives.specs.Answer.{Gives};
-ghost use Rattle.gift128.specs.Calls.{blockCode, keyCode, wordsCode, manyCode, newCode, newWords};
-ghost use Rattle.gift128.specs.Calls.{encryptedBy, decryptedBy, afterOne, allBlocks};
-ghost use Rattle.gift128.specs.Ways.{roundsBy, crossedBy, crossed};
+mod orders;
+
+use answers::DONE;
 use key_schedule::precompute_rkeys;
+use orders::key_code;
+use orders::many_code;
+use orders::words_code;
 use packing::packing;
 use packing::unpacking;
 use primitives::State;
 use quintuple::first_round;
 use quintuple::inv_quintuple_round;
 use quintuple::quintuple_round;
+ghost use mathlib.Core.Path.{_≡_};
+ghost use Prim.Native.Nat.{_%_};
+ghost use lib.ListN.{length};
+ghost use denote.Ref.{now};
+ghost use Rattle.answers.specs.Outcome.{Gives};
+ghost use Rattle.published.specs.Gift128.{rounds128, unrounds128};
+ghost use Rattle.primitives.specs.Packed.{blockOf, stateOf};
+ghost use Rattle.round_words.specs.Arranged.{pairsFrom};
+ghost use Rattle.gift128.specs.Calls.{keyCode, wordsCode, manyCode, allBlocks};
+ghost use Rattle.gift128.specs.Calls.{EncryptsByKey, DecryptsByKey, EncryptsByWords, DecryptsByWords, EncryptsBlocks, DecryptsBlocks};
+ghost use Rattle.gift128.specs.Calls.{MakesOneRound, MakesCipher, EncryptsBlock, DecryptsBlock};
+ghost use Rattle.gift128.specs.Ways.{roundsBy, crossedBy, crossed};
 
 // A cipher instance: its eighty round words. One made from a refused key has eighty zero words, which are those of the all-zero key.
 #[repr(C)]
@@ -41,7 +47,7 @@ impl Gift128 {
 
     // Refusal: 1.
     pub fn new(key: &[u8]) -> Made
-        ensures { λ r. ⌜ (r .code ≡ newCode (now (key .entry))) × (r .cipher .k ≡ newWords (now (key .entry))) ⌝ }
+        ensures { λ r. ⌜ MakesCipher (now (key .entry)) (r .code) (r .cipher .k) ⌝ }
     {
         let mut k = [0u32; 80];
         let code = precompute_rkeys(key, &mut k);
@@ -51,14 +57,14 @@ impl Gift128 {
 
     // One block. Refusal: 2.
     pub fn encrypt_block(self, block: &mut [u8]) -> u32
-        ensures { λ r. ⌜ Gives (blockCode (now (block .entry))) (encryptedBy (self .k) (now (block .entry))) (now (block .entry)) r (now (block .exit)) ⌝ }
+        ensures { λ r. ⌜ EncryptsBlock (self .k) (now (block .entry)) r (now (block .exit)) ⌝ }
     {
         let k = self.k;
         encrypt_by_words(&k, block)
     }
 
     pub fn decrypt_block(self, block: &mut [u8]) -> u32
-        ensures { λ r. ⌜ Gives (blockCode (now (block .entry))) (decryptedBy (self .k) (now (block .entry))) (now (block .entry)) r (now (block .exit)) ⌝ }
+        ensures { λ r. ⌜ DecryptsBlock (self .k) (now (block .entry)) r (now (block .exit)) ⌝ }
     {
         let k = self.k;
         decrypt_by_words(&k, block)
@@ -68,7 +74,7 @@ impl Gift128 {
 // The forty rounds, five at a time: each quintuple reads the ten words that start at twice its offset.
 fn encrypt_state(s: State, rkey: &[u32]) -> State
     requires { ⌜ length (now rkey) ≡ 80 ⌝ }
-    ensures { λ r. ⌜ r ≡ stateOf (rounds 128 1 (pairsFrom 0 (now (rkey .entry))) 0 (blockOf s)) ⌝ }
+    ensures { λ r. ⌜ r ≡ stateOf (rounds128 (pairsFrom 0 (now (rkey .entry))) 0 (blockOf s)) ⌝ }
 {
     let mut state = s;
     let mut i: usize = 0;
@@ -83,7 +89,7 @@ fn encrypt_state(s: State, rkey: &[u32]) -> State
 // And undone, from offset 35 down to 0, both included.
 fn decrypt_state(s: State, rkey: &[u32]) -> State
     requires { ⌜ length (now rkey) ≡ 80 ⌝ }
-    ensures { λ r. ⌜ r ≡ stateOf (unrounds 128 1 (pairsFrom 0 (now (rkey .entry))) 0 (blockOf s)) ⌝ }
+    ensures { λ r. ⌜ r ≡ stateOf (unrounds128 (pairsFrom 0 (now (rkey .entry))) 0 (blockOf s)) ⌝ }
 {
     let mut state = s;
     let mut i: usize = 40;
@@ -120,75 +126,69 @@ fn in_place(rkey: &[u32], block: &mut [u8], back: bool)
 }
 
 fn by_words(rkey: &[u32], block: &mut [u8], back: bool) -> u32
-    ensures { λ r. ⌜ Gives (wordsCode (now (rkey .entry)) (now (block .entry))) (crossedBy back (now (rkey .entry)) (now (block .entry))) (now (block .entry)) r (now (block .exit)) ⌝ }
+    ensures { λ r. ⌜ Gives (wordsCode (length (now (rkey .entry))) (length (now (block .entry)))) (crossedBy back (now (rkey .entry)) (now (block .entry))) (now (block .entry)) r (now (block .exit)) ⌝ }
 {
-    if rkey.len() != 80 {
-        return 4;
-    }
-    if block.len() != Gift128::BLOCK_SIZE {
-        return 2;
+    let code = words_code(rkey.len(), block.len());
+    if code != DONE {
+        return code;
     }
     in_place(rkey, block, back);
-    0
+    code
 }
 
 // One block by round words, any eighty. Refusals: 4, 2.
 pub fn encrypt_by_words(rkey: &[u32], block: &mut [u8]) -> u32
-    ensures { λ r. ⌜ Gives (wordsCode (now (rkey .entry)) (now (block .entry))) (encryptedBy (now (rkey .entry)) (now (block .entry))) (now (block .entry)) r (now (block .exit)) ⌝ }
+    ensures { λ r. ⌜ EncryptsByWords (now (rkey .entry)) (now (block .entry)) r (now (block .exit)) ⌝ }
 {
     by_words(rkey, block, false)
 }
 
 pub fn decrypt_by_words(rkey: &[u32], block: &mut [u8]) -> u32
-    ensures { λ r. ⌜ Gives (wordsCode (now (rkey .entry)) (now (block .entry))) (decryptedBy (now (rkey .entry)) (now (block .entry))) (now (block .entry)) r (now (block .exit)) ⌝ }
+    ensures { λ r. ⌜ DecryptsByWords (now (rkey .entry)) (now (block .entry)) r (now (block .exit)) ⌝ }
 {
     by_words(rkey, block, true)
 }
 
 fn by_key(key: &[u8], block: &mut [u8], back: bool) -> u32
-    ensures { λ r. ⌜ Gives (keyCode (now (key .entry)) (now (block .entry))) (crossed back (now (key .entry)) (now (block .entry))) (now (block .entry)) r (now (block .exit)) ⌝ }
+    ensures { λ r. ⌜ Gives (keyCode (length (now (key .entry))) (length (now (block .entry)))) (crossed back (now (key .entry)) (now (block .entry))) (now (block .entry)) r (now (block .exit)) ⌝ }
 {
-    if key.len() != Gift128::KEY_SIZE {
-        return 1;
-    }
-    if block.len() != Gift128::BLOCK_SIZE {
-        return 2;
+    let code = key_code(key.len(), block.len());
+    if code != DONE {
+        return code;
     }
     let mut rkey = [0u32; 80];
     precompute_rkeys(key, &mut rkey);
     in_place(&rkey, block, back);
-    0
+    code
 }
 
 // One block by a key. Refusals: 1, 2.
 pub fn encrypt_by_key(key: &[u8], block: &mut [u8]) -> u32
-    ensures { λ r. ⌜ Gives (keyCode (now (key .entry)) (now (block .entry))) (encrypted (now (key .entry)) (now (block .entry))) (now (block .entry)) r (now (block .exit)) ⌝ }
+    ensures { λ r. ⌜ EncryptsByKey (now (key .entry)) (now (block .entry)) r (now (block .exit)) ⌝ }
 {
     by_key(key, block, false)
 }
 
 pub fn decrypt_by_key(key: &[u8], block: &mut [u8]) -> u32
-    ensures { λ r. ⌜ Gives (keyCode (now (key .entry)) (now (block .entry))) (decrypted (now (key .entry)) (now (block .entry))) (now (block .entry)) r (now (block .exit)) ⌝ }
+    ensures { λ r. ⌜ DecryptsByKey (now (key .entry)) (now (block .entry)) r (now (block .exit)) ⌝ }
 {
     by_key(key, block, true)
 }
 
 // The state after round 1, by a key. Refusals: 1, 2.
 pub fn one_round(key: &[u8], block: &mut [u8]) -> u32
-    ensures { λ r. ⌜ Gives (keyCode (now (key .entry)) (now (block .entry))) (afterOne (now (key .entry)) (now (block .entry))) (now (block .entry)) r (now (block .exit)) ⌝ }
+    ensures { λ r. ⌜ MakesOneRound (now (key .entry)) (now (block .entry)) r (now (block .exit)) ⌝ }
 {
-    if key.len() != Gift128::KEY_SIZE {
-        return 1;
-    }
-    if block.len() != Gift128::BLOCK_SIZE {
-        return 2;
+    let code = key_code(key.len(), block.len());
+    if code != DONE {
+        return code;
     }
     let mut rkey = [0u32; 80];
     precompute_rkeys(key, &mut rkey);
     let s = packing(block);
     let once = first_round(s, &rkey);
     unpacking(once, block);
-    0
+    code
 }
 
 // ---- many blocks
@@ -221,32 +221,27 @@ fn all(rkey: &[u32], input: &[u8], output: &mut [u8], back: bool)
 }
 
 fn many_by_key(key: &[u8], input: &[u8], output: &mut [u8], back: bool) -> u32
-    ensures { λ r. ⌜ Gives (manyCode (now (key .entry)) (now (input .entry)) (now (output .entry))) (allBlocks (crossed back (now (key .entry))) (now (input .entry))) (now (output .entry)) r (now (output .exit)) ⌝ }
+    ensures { λ r. ⌜ Gives (manyCode (length (now (key .entry))) (length (now (input .entry))) (length (now (output .entry)))) (allBlocks (crossed back (now (key .entry))) (now (input .entry))) (now (output .entry)) r (now (output .exit)) ⌝ }
 {
-    if key.len() != Gift128::KEY_SIZE {
-        return 1;
-    }
-    if input.len() % 16 != 0 {
-        return 2;
-    }
-    if output.len() != input.len() {
-        return 3;
+    let code = many_code(key.len(), input.len(), output.len());
+    if code != DONE {
+        return code;
     }
     let mut rkey = [0u32; 80];
     precompute_rkeys(key, &mut rkey);
     all(&rkey, input, output, back);
-    0
+    code
 }
 
 // Many blocks by a key. Refusals: 1, 2, 3.
 pub fn encrypt_blocks(key: &[u8], input: &[u8], output: &mut [u8]) -> u32
-    ensures { λ r. ⌜ Gives (manyCode (now (key .entry)) (now (input .entry)) (now (output .entry))) (allBlocks (encrypted (now (key .entry))) (now (input .entry))) (now (output .entry)) r (now (output .exit)) ⌝ }
+    ensures { λ r. ⌜ EncryptsBlocks (now (key .entry)) (now (input .entry)) (now (output .entry)) r (now (output .exit)) ⌝ }
 {
     many_by_key(key, input, output, false)
 }
 
 pub fn decrypt_blocks(key: &[u8], input: &[u8], output: &mut [u8]) -> u32
-    ensures { λ r. ⌜ Gives (manyCode (now (key .entry)) (now (input .entry)) (now (output .entry))) (allBlocks (decrypted (now (key .entry))) (now (input .entry))) (now (output .entry)) r (now (output .exit)) ⌝ }
+    ensures { λ r. ⌜ DecryptsBlocks (now (key .entry)) (now (input .entry)) (now (output .entry)) r (now (output .exit)) ⌝ }
 {
     many_by_key(key, input, output, true)
 }

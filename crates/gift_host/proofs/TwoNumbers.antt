@@ -16,15 +16,22 @@ use denote.Laws.{Is}
 use denote.Memory.{pointee}
 use denote.Plain.{uint-vals, uint-tells}
 use denote.RattleType.{RattleType}
-use denote.Slice.{slice-vals, mut-slice-tells}
+use denote.Slice.{sliceTy, slice-vals, mut-slice-tells}
 use denote.Signature.{Signature, plain}
 use denote.Triple.Spec.{Spec, Meets, tripleOf}
 use denote.Triple.Statement.{Contract, Triple}
-use Rattle.lane_record.proofs.Lane.Laws as T′
-use Rattle.bench_lent.proofs.Rows.{R}
-use Rattle.bench_lent.proofs.Through.{lentTy, onTy, relent}
+use Rattle.lane.proofs.Lane.Laws as T′
 use Rattle.bench_lent.proofs.Walk.{allocated, freed}
+use Rattle.bench_lent.proofs.Lending.{R}
+use Rattle.bench_lent.proofs.Steps.{relent}
 use Rattle.gift_host.proofs.Passing.{handed, hands-on}
+
+-- the lent slice's type, and that of the slice which is lent on
+abbrev lentTy : Ty
+lentTy = sliceTy (tyRef (named 0) mut (pointee (R .written)))
+
+abbrev onTy : Ty
+onTy = sliceTy (tyRef erased mut (pointee (R .written)))
 
 -- such a function, which gives back a Q, of the machine's type τ, and calls f
 abbrev pub signature : RattleType → Signature

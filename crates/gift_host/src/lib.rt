@@ -1,27 +1,35 @@
 // What a host links, under C names: each function hands its arguments on to the proved call of the same meaning and gives back its answer.
 // The host's side of it is include/gift_host.h.
 use bench_lent::Turns;
-use lane_record::Lane;
+use lane::Lane;
 ghost use mathlib.Core.Path.{_≡_};
 ghost use denote.Ref.{now};
-ghost use Rattle.published.specs.Gift128.{encrypted, decrypted};
-ghost use Rattle.primitives.specs.Answer.{Gives};
-ghost use Rattle.key_schedule.specs.Expand.{expandCode, expanded};
-ghost use Rattle.gift128.specs.Calls.{keyCode, wordsCode, manyCode, encryptedBy, decryptedBy, allBlocks};
-ghost use Rattle.bench.specs.Calls.{openOf, turnOf, takeOf, takenBytes, closeOf};
-ghost use Rattle.bench_lent.specs.Lent.{lent, turnsOf};
+ghost use Rattle.key_schedule.specs.Expand.{Expands};
+ghost use Rattle.gift128.specs.Calls.{EncryptsByKey, DecryptsByKey, EncryptsByWords, DecryptsByWords, EncryptsBlocks, DecryptsBlocks};
+ghost use Rattle.bench_lent.specs.Lent.{Opens, Serves, Takes, Closes};
+ghost use Rattle.gift_host.specs.Edition.{edition};
+
+// The edition of records, arguments and counts that this library has. GIFT_HOST_EDITION in the header is the one that a host was compiled for.
+const EDITION: u32 = 1;
+
+#[no_mangle]
+pub extern "C" fn gift_host_edition() -> u32
+    ensures { λ r. ⌜ r ≡ edition ⌝ }
+{
+    EDITION
+}
 
 // One block by a key, in place. Refusals: 1, 2.
 #[no_mangle]
 pub extern "C" fn gift_encrypt_by_key(key: &[u8], block: &mut [u8]) -> u32
-    ensures { λ r. ⌜ Gives (keyCode (now (key .entry)) (now (block .entry))) (encrypted (now (key .entry)) (now (block .entry))) (now (block .entry)) r (now (block .exit)) ⌝ }
+    ensures { λ r. ⌜ EncryptsByKey (now (key .entry)) (now (block .entry)) r (now (block .exit)) ⌝ }
 {
     gift128::encrypt_by_key(key, block)
 }
 
 #[no_mangle]
 pub extern "C" fn gift_decrypt_by_key(key: &[u8], block: &mut [u8]) -> u32
-    ensures { λ r. ⌜ Gives (keyCode (now (key .entry)) (now (block .entry))) (decrypted (now (key .entry)) (now (block .entry))) (now (block .entry)) r (now (block .exit)) ⌝ }
+    ensures { λ r. ⌜ DecryptsByKey (now (key .entry)) (now (block .entry)) r (now (block .exit)) ⌝ }
 {
     gift128::decrypt_by_key(key, block)
 }
@@ -29,14 +37,14 @@ pub extern "C" fn gift_decrypt_by_key(key: &[u8], block: &mut [u8]) -> u32
 // One block by round words, any eighty, in place. Refusals: 4, 2.
 #[no_mangle]
 pub extern "C" fn gift_encrypt_by_words(words: &[u32], block: &mut [u8]) -> u32
-    ensures { λ r. ⌜ Gives (wordsCode (now (words .entry)) (now (block .entry))) (encryptedBy (now (words .entry)) (now (block .entry))) (now (block .entry)) r (now (block .exit)) ⌝ }
+    ensures { λ r. ⌜ EncryptsByWords (now (words .entry)) (now (block .entry)) r (now (block .exit)) ⌝ }
 {
     gift128::encrypt_by_words(words, block)
 }
 
 #[no_mangle]
 pub extern "C" fn gift_decrypt_by_words(words: &[u32], block: &mut [u8]) -> u32
-    ensures { λ r. ⌜ Gives (wordsCode (now (words .entry)) (now (block .entry))) (decryptedBy (now (words .entry)) (now (block .entry))) (now (block .entry)) r (now (block .exit)) ⌝ }
+    ensures { λ r. ⌜ DecryptsByWords (now (words .entry)) (now (block .entry)) r (now (block .exit)) ⌝ }
 {
     gift128::decrypt_by_words(words, block)
 }
@@ -44,7 +52,7 @@ pub extern "C" fn gift_decrypt_by_words(words: &[u32], block: &mut [u8]) -> u32
 // The eighty round words of a key. Refusals: 1, 4.
 #[no_mangle]
 pub extern "C" fn gift_expand(key: &[u8], words: &mut [u32]) -> u32
-    ensures { λ r. ⌜ Gives (expandCode (now (key .entry)) (now (words .entry))) (expanded (now (key .entry))) (now (words .entry)) r (now (words .exit)) ⌝ }
+    ensures { λ r. ⌜ Expands (now (key .entry)) (now (words .entry)) r (now (words .exit)) ⌝ }
 {
     key_schedule::precompute_rkeys(key, words)
 }
@@ -52,14 +60,14 @@ pub extern "C" fn gift_expand(key: &[u8], words: &mut [u32]) -> u32
 // Many blocks by a key, from one buffer to another. Refusals: 1, 2, 3.
 #[no_mangle]
 pub extern "C" fn gift_encrypt_blocks(key: &[u8], input: &[u8], output: &mut [u8]) -> u32
-    ensures { λ r. ⌜ Gives (manyCode (now (key .entry)) (now (input .entry)) (now (output .entry))) (allBlocks (encrypted (now (key .entry))) (now (input .entry))) (now (output .entry)) r (now (output .exit)) ⌝ }
+    ensures { λ r. ⌜ EncryptsBlocks (now (key .entry)) (now (input .entry)) (now (output .entry)) r (now (output .exit)) ⌝ }
 {
     gift128::encrypt_blocks(key, input, output)
 }
 
 #[no_mangle]
 pub extern "C" fn gift_decrypt_blocks(key: &[u8], input: &[u8], output: &mut [u8]) -> u32
-    ensures { λ r. ⌜ Gives (manyCode (now (key .entry)) (now (input .entry)) (now (output .entry))) (allBlocks (decrypted (now (key .entry))) (now (input .entry))) (now (output .entry)) r (now (output .exit)) ⌝ }
+    ensures { λ r. ⌜ DecryptsBlocks (now (key .entry)) (now (input .entry)) (now (output .entry)) r (now (output .exit)) ⌝ }
 {
     gift128::decrypt_blocks(key, input, output)
 }
@@ -74,8 +82,7 @@ pub extern "C" fn gift_open_lane(
     key: &[u8],
     block: &[u8],
 ) -> u32
-    ensures { λ r. ⌜ (r ≡ openOf (lent (now (lanes .entry)) last) lane direction (now (key .entry)) (now (block .entry)) .code)
-        × (now (lanes .exit) ≡ openOf (lent (now (lanes .entry)) last) lane direction (now (key .entry)) (now (block .entry)) .bench .lanes) ⌝ }
+    ensures { λ r. ⌜ Opens (now (lanes .entry)) last lane direction (now (key .entry)) (now (block .entry)) r (now (lanes .exit)) ⌝ }
 {
     bench_lent::open_lane(lanes, last, lane, direction, key, block)
 }
@@ -83,8 +90,7 @@ pub extern "C" fn gift_open_lane(
 // Turns: 10, 8. The last served number goes in, and comes back.
 #[no_mangle]
 pub extern "C" fn gift_turn(lanes: &mut [Lane], last: u32, asked: u32) -> Turns
-    ensures { λ r. ⌜ (r ≡ turnsOf (turnOf (lent (now (lanes .entry)) last) asked))
-        × (now (lanes .exit) ≡ turnOf (lent (now (lanes .entry)) last) asked .bench .lanes) ⌝ }
+    ensures { λ r. ⌜ Serves (now (lanes .entry)) last asked r (now (lanes .exit)) ⌝ }
 {
     bench_lent::turn(lanes, last, asked)
 }
@@ -92,9 +98,7 @@ pub extern "C" fn gift_turn(lanes: &mut [Lane], last: u32, asked: u32) -> Turns
 // Taking: 10, 5, 7, 2.
 #[no_mangle]
 pub extern "C" fn gift_take(lanes: &mut [Lane], last: u32, lane: u32, out: &mut [u8]) -> u32
-    ensures { λ r. ⌜ (r ≡ takeOf (lent (now (lanes .entry)) last) lane (now (out .entry)) .code)
-        × (now (lanes .exit) ≡ takeOf (lent (now (lanes .entry)) last) lane (now (out .entry)) .bench .lanes)
-        × (now (out .exit) ≡ takenBytes (lent (now (lanes .entry)) last) lane (now (out .entry))) ⌝ }
+    ensures { λ r. ⌜ Takes (now (lanes .entry)) last lane (now (out .entry)) r (now (lanes .exit)) (now (out .exit)) ⌝ }
 {
     bench_lent::take(lanes, last, lane, out)
 }
@@ -102,8 +106,7 @@ pub extern "C" fn gift_take(lanes: &mut [Lane], last: u32, lane: u32, out: &mut 
 // Closing: 10, 5.
 #[no_mangle]
 pub extern "C" fn gift_close(lanes: &mut [Lane], last: u32, lane: u32) -> u32
-    ensures { λ r. ⌜ (r ≡ closeOf (lent (now (lanes .entry)) last) lane .code)
-        × (now (lanes .exit) ≡ closeOf (lent (now (lanes .entry)) last) lane .bench .lanes) ⌝ }
+    ensures { λ r. ⌜ Closes (now (lanes .entry)) last lane r (now (lanes .exit)) ⌝ }
 {
     bench_lent::close(lanes, last, lane)
 }

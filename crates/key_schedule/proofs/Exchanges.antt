@@ -8,10 +8,10 @@ use Rattle.bits.specs.Digit.{digit, bit}
 use Rattle.bits.proofs.Computed.{below, and-left, and-right, agree, bounded}
 use Rattle.published.specs.Rounds.{P}
 use Rattle.primitives.specs.Words.{permuted, swappedSingle}
-use Rattle.primitives.specs.Arranged.{N, nibbleAt, arranged}
 use Rattle.primitives.proofs.Moves.{permuted-lt, permuted-id, permuted-then, permuted-cong}
 use Rattle.primitives.proofs.Swaps.{exchange, apart, swap-is-move}
-use Rattle.key_schedule.specs.Update.{later, tripled}
+use Rattle.round_words.specs.Arranged.{N, nibbleAt, arranged}
+use Rattle.key_schedule.specs.InnerUpdate.{later, tripled}
 use Rattle.key_schedule.proofs.Updates.{laterPlace, later-move}
 
 -- the bits under a mask change places with those so many above

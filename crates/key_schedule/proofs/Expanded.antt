@@ -4,27 +4,26 @@ use mathlib.Core.List.{List, _++_}
 use Prim.Native.Nat.{ℕ, zero, suc, _*_}
 use lib.Dec.{lit<}
 use lib.ListN.{length, take}
-use Rattle.published.specs.Bytes.{fromBytes}
-use Rattle.published.specs.Key.{Key, keyOf, update, pairs}
+use Rattle.published.specs.Bytes.{fromBytes, Bytes}
+use Rattle.published.specs.Key.{update, pairs}
 use Rattle.published.specs.Gift128.{pairOf, pairsOf}
 use Rattle.published.proofs.Gift128.{length-pairs}
-use Rattle.published.proofs.Reading.{Bytes}
-use Rattle.primitives.specs.Arranged.{pairsFrom}
-use Rattle.primitives.proofs.Pairs.{Fit, length-words, pairs-words}
+use Rattle.round_words.specs.Arranged.{pairsFrom}
+use Rattle.round_words.proofs.Pairs.{Fit, length-words, pairs-words}
 use Rattle.key_schedule.specs.declared.Ten.{Ten}
-use Rattle.key_schedule.specs.Tens.{firstWords, fiveRounds, fiveLater, wordsOf, following, grown}
 use Rattle.key_schedule.specs.Expand.{expanded}
-use Rattle.key_schedule.proofs.KeyState.{Sound, sound-keyOf, sound-update, u-lt, v-lt, fourOf, four-later, tens-of}
+use Rattle.key_schedule.specs.InnerTens.{firstWords, fiveRounds, fiveLater, wordsOf, following, grown}
+use Rattle.key_schedule.proofs.KeyState.{u-lt, v-lt, fourOf, four-later, tens-of}
 use Rattle.key_schedule.proofs.KeyBytes.{first-words-are}
 
-fit-pairs : (r : ℕ) (k : Key) → Sound k → Fit (pairs pairOf r k)
+fit-pairs : (r k : ℕ) → Fit (pairs pairOf r k)
 unfolding pairs
-fit-pairs zero k s = tt
-fit-pairs (suc r) k s = (u-lt k s, v-lt k s, fit-pairs r (update k) (sound-update k s))
+fit-pairs zero k = tt
+fit-pairs (suc r) k = (u-lt k, v-lt k, fit-pairs r (update k))
 
 pub fit-key : (key : List ℕ) → Fit (pairsOf key)
 unfolding pairsOf
-fit-key key = fit-pairs 40 (keyOf (fromBytes key)) (sound-keyOf (fromBytes key))
+fit-key key = fit-pairs 40 (fromBytes key)
 
 pub pairs-of-expanded : (key : List ℕ) → pairsFrom 0 (expanded key) ≡ pairsOf key
 unfolding expanded
@@ -32,7 +31,7 @@ pairs-of-expanded key = pairs-words 0 (pairsOf key) (lit< tt) (fit-key key)
 
 pub length-expanded : (key : List ℕ) → length (expanded key) ≡ 80
 unfolding expanded pairsOf
-length-expanded key = length-words 0 (pairsOf key) ∙ ap (_*_ 2) (length-pairs pairOf 40 (keyOf (fromBytes key)))
+length-expanded key = length-words 0 (pairsOf key) ∙ ap (_*_ 2) (length-pairs pairOf 40 (fromBytes key))
 
 -- ---- as the code makes it: the first two tens from four words of the key, and six tens that follow
 
@@ -40,11 +39,10 @@ pub grown-expanded : (key rest : List ℕ) → length key ≡ 16 → Bytes key
     → grown (wordsOf (fiveRounds (firstWords key)) ++ (wordsOf (fiveRounds (fiveLater (firstWords key))) ++ rest)) ≡ expanded key
 unfolding grown expanded pairsOf
 grown-expanded key rest len bytes =
-    let k : Key = keyOf (fromBytes key) in
-    let s : Sound k = sound-keyOf (fromBytes key) in
+    let k : ℕ = fromBytes key in
     let first : firstWords key ≡ fourOf k = first-words-are key len bytes in
-    ap₂ (λ (a b : Ten). wordsOf a ++ (wordsOf b ++ following 6 a b)) (ap fiveRounds first) (ap fiveRounds (ap fiveLater first ∙ sym (four-later k s)))
-    ∙ sym (tens-of 6 k s)
+    ap₂ (λ (a b : Ten). wordsOf a ++ (wordsOf b ++ following 6 a b)) (ap fiveRounds first) (ap fiveRounds (ap fiveLater first ∙ sym (four-later k)))
+    ∙ sym (tens-of 6 k)
 
 -- the same as the stores leave it: ten words at 0, and then ten at 10
 pub filled : (key one two more rest : List ℕ) → length key ≡ 16 → Bytes key → one ≡ wordsOf (fiveRounds (firstWords key))

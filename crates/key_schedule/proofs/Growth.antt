@@ -6,7 +6,7 @@ use native.Mathlib.Omega.{arith}
 use lib.ListN.{length, take, drop, length-append, length-drop, take-append-drop}
 use lib.Seq.{length-take-le, take-at, drop-at, take-all, take-append-le, drop-append-le}
 use Rattle.key_schedule.specs.declared.Ten.{Ten}
-use Rattle.key_schedule.specs.Tens.{wordsOf, tenOf, tenAt, tenLater, following}
+use Rattle.key_schedule.specs.InnerTens.{wordsOf, tenOf, tenAt, tenLater, following}
 
 -- the words ws at place p of xs, whatever comes after them
 module _ (xs ws rest : List ℕ) (p : ℕ) (inside : p ≤ length xs) where

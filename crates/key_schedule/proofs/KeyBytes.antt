@@ -4,22 +4,23 @@ use mathlib.Core.Bool.{Bool, true, false, cond}
 use mathlib.Core.List.{List, [], _∷_}
 use Prim.Native.Nat.{ℕ, zero, suc, _+_, _-_, _*_, _/_, _%_, _^_, _≤_, _<_}
 use native.Mathlib.Omega.{arith}
-use borrow.Author.Tests.{ltb-true, ltb-false}
 use lib.Arith.{digits-lt}
 use lib.Dec.{ltb, lit<}
 use lib.ListN.{length, getD, take, drop, length-take, length-drop}
 use lib.Seq.{getD-take, getD-drop}
+use borrow.Author.Tests.{ltb-true, ltb-false}
 use Rattle.bits.specs.Digit.{digit, bit}
-use Rattle.bits.proofs.Bits.{bit-digit, bit-ext}
 use Rattle.bits.proofs.Digits.{digit-lt}
-use Rattle.published.specs.Bytes.{fromBytes}
-use Rattle.published.specs.Key.{keyOf, update}
+use Rattle.bits.proofs.Bits.{bit-digit, bit-ext}
+use Rattle.published.specs.Bytes.{fromBytes, Bytes}
+use Rattle.published.specs.Rounds.{Pair}
+use Rattle.published.specs.Key.{_‖_}
 use Rattle.published.specs.Gift128.{pairOf}
-use Rattle.published.proofs.Reading.{Bytes, bit-fromBytes, fromBytes-lt}
-use Rattle.key_schedule.specs.Tens.{firstWords}
+use Rattle.published.proofs.Reading.{bit-fromBytes, fromBytes-lt}
+use Rattle.key_schedule.specs.InnerTens.{firstWords}
 use Rattle.key_schedule.proofs.Updates.{bit-join}
 use Rattle.key_schedule.proofs.TenWords.{same-four}
-use Rattle.key_schedule.proofs.KeyState.{fourOf}
+use Rattle.key_schedule.proofs.KeyState.{one-on, fourOf}
 
 bytes-take : (n : ℕ) (bs : List ℕ) → Bytes bs → Bytes (take n bs)
 bytes-take zero bs h i = lit< tt
@@ -58,7 +59,7 @@ module _ (key : List ℕ) (len : length key ≡ 16) (bytes : Bytes key) where
         ∙ sym (bit-fromBytes key bytes (32 * i + j) (omega arith))
 
     bit-halves : (j : ℕ) → j < 32
-        → bit (digit 65536 (fromBytes key) (2 * i + 1) * 2 ^ 16 + digit 65536 (fromBytes key) (2 * i)) j ≡ bit (fromBytes key) (32 * i + j)
+        → bit (digit 65536 (fromBytes key) (2 * i + 1) ‖ digit 65536 (fromBytes key) (2 * i)) j ≡ bit (fromBytes key) (32 * i + j)
     bit-halves j h = bit-join 16 (digit 65536 (fromBytes key) (2 * i + 1)) (digit 65536 (fromBytes key) (2 * i)) j (half-lt (2 * i)) ∙ go (ltb j 16) refl
       where
         go : (t : Bool) → ltb j 16 ≡ t
@@ -71,13 +72,15 @@ module _ (key : List ℕ) (len : length key ≡ 16) (bytes : Bytes key) where
             let place : 16 * (2 * i + 1) + (j - 16) ≡ 32 * i + j = omega arith in
             bit-digit 16 (fromBytes key) (2 * i + 1) (j - 16) (omega arith) ∙ ap (bit (fromBytes key)) place
 
-    pub word-is : fromBytes (take 4 (drop (12 - 4 * i) key)) ≡ digit 65536 (fromBytes key) (2 * i + 1) * 2 ^ 16 + digit 65536 (fromBytes key) (2 * i)
+    pub word-is : fromBytes (take 4 (drop (12 - 4 * i) key)) ≡ digit 65536 (fromBytes key) (2 * i + 1) ‖ digit 65536 (fromBytes key) (2 * i)
     unfolding four
     word-is =
         bit-ext 32 (fromBytes four) _ (rw four-len at (fromBytes-lt four four-bytes)) (digits-lt (half-lt (2 * i + 1)) (half-lt (2 * i)))
         (λ j h. bit-four j h ∙ sym (bit-halves j h))
 
-  pub first-words-are : firstWords key ≡ fourOf (keyOf (fromBytes key))
-  unfolding firstWords fourOf pairOf keyOf update
+  pub first-words-are : firstWords key ≡ fourOf (fromBytes key)
+  unfolding firstWords fourOf pairOf
   first-words-are =
-      same-four (firstWords key) (fourOf (keyOf (fromBytes key))) (word-is 0 (lit< tt)) (word-is 2 (lit< tt)) (word-is 1 (lit< tt)) (word-is 3 (lit< tt))
+      same-four (firstWords key) (fourOf (fromBytes key)) (word-is 0 (lit< tt)) (word-is 2 (lit< tt))
+      (word-is 1 (lit< tt) ∙ sym (ap (λ (p : Pair). p .v) (one-on (fromBytes key))))
+      (word-is 3 (lit< tt) ∙ sym (ap (λ (p : Pair). p .u) (one-on (fromBytes key))))

@@ -1,126 +1,106 @@
 -- The published key state, five rounds at a time: its pairs U, V are the tens, each made of the ten that stands two before it.
 use mathlib.Core.Path.{_≡_, refl, sym, ap, ap₂, _∙_}
+use mathlib.Core.Bool.{cond}
 use mathlib.Core.List.{_++_}
-use Prim.Native.Nat.{ℕ, zero, suc, _+_, _*_, _^_, _<_}
+use Prim.Native.Nat.{ℕ, zero, suc, _+_, _-_, _^_, _<_}
 use native.Mathlib.Omega.{arith}
 use lib.Arith.{digits-lt}
-use lib.Dec.{lit<, lit≤}
-use Rattle.bits.specs.Digit.{digit}
-use Rattle.bits.proofs.Digits.{digit-lt}
+use lib.Dec.{eqb, ltb, lit<}
+use Rattle.bits.specs.Digit.{digit, number}
+use Rattle.bits.proofs.Digits.{digit-lt, digit-number}
+use Rattle.bits.proofs.Truth.{cond-either}
 use Rattle.published.specs.Rounds.{Pair}
-use Rattle.published.specs.Key.{Key, keyOf, ror16, update, pairs}
+use Rattle.published.specs.Key.{_‖_, ror16, update, pairs}
 use Rattle.published.specs.Gift128.{pairOf}
-use Rattle.primitives.specs.Arranged.{arranged, wordsFrom}
-use Rattle.primitives.proofs.Arrangements.{stands-arranged}
+use Rattle.round_words.specs.Arranged.{arranged, wordsFrom}
+use Rattle.round_words.proofs.Arrangements.{stands-arranged}
 use Rattle.key_schedule.specs.declared.Four.{Four}
 use Rattle.key_schedule.specs.declared.Ten.{Ten}
-use Rattle.key_schedule.specs.Update.{updated, updates, later}
-use Rattle.key_schedule.specs.Tens.{fiveRounds, fiveLater, tenLater, wordsOf, following}
+use Rattle.key_schedule.specs.InnerUpdate.{updated, updates, later}
+use Rattle.key_schedule.specs.InnerTens.{fiveRounds, fiveLater, tenLater, wordsOf, following}
 use Rattle.key_schedule.proofs.Updates.{ror16-lt, updated-lt}
 use Rattle.key_schedule.proofs.TenWords.{same-four, same-ten}
 
--- ---- every word of a key state has 16 bits
+word-lt : (key i : ℕ) → digit 65536 key i < 2 ^ 16
+word-lt key i = digit-lt 65536 (lit< tt) key i
 
-pub record Sound (k : Key) : Type 0 where
-  pub k7 : k .k7 < 2 ^ 16
-  pub k6 : k .k6 < 2 ^ 16
-  pub k5 : k .k5 < 2 ^ 16
-  pub k4 : k .k4 < 2 ^ 16
-  pub k3 : k .k3 < 2 ^ 16
-  pub k2 : k .k2 < 2 ^ 16
-  pub k1 : k .k1 < 2 ^ 16
-  pub k0 : k .k0 < 2 ^ 16
+-- ---- the words of an updated key state
 
-pub sound-keyOf : (x : ℕ) → Sound (keyOf x)
-unfolding keyOf
-sound-keyOf x = record { k7 = d 7; k6 = d 6; k5 = d 5; k4 = d 4; k3 = d 3; k2 = d 2; k1 = d 1; k0 = d 0 }
-  where
-    d : (i : ℕ) → digit 65536 x i < 2 ^ 16
-    d i = digit-lt 65536 (lit< tt) x i
+abbrev wordOn : ℕ → ℕ → ℕ
+wordOn key i = cond (ltb i 6) (digit 65536 key (i + 2)) (ror16 (cond (eqb i 6) 12 2) (digit 65536 key (i - 6)))
 
-pub sound-update : (k : Key) → Sound k → Sound (update k)
-unfolding update
-sound-update k s =
-    record {
-      k7 = ror16-lt 2 (k .k1) (lit≤ tt) (s .k1);
-      k6 = ror16-lt 12 (k .k0) (lit≤ tt) (s .k0);
-      k5 = s .k7;
-      k4 = s .k6;
-      k3 = s .k5;
-      k2 = s .k4;
-      k1 = s .k3;
-      k0 = s .k2;
-    }
+update-words : (key : ℕ) → update key ≡ number 65536 8 (wordOn key)
+unfolding update number
+update-words key = omega arith
 
--- ---- the pair of a key state, and the one two rounds later
+word-update : (key i : ℕ) → i < 8 → digit 65536 (update key) i ≡ wordOn key i
+word-update key i h =
+    ap (λ (x : ℕ). digit 65536 x i) (update-words key)
+    ∙ digit-number 65536 (lit< tt) 8 (wordOn key) (λ j l. cond-either (λ (x : ℕ). x < 2 ^ 16) (ltb j 6) _ _ (λ e. word-lt key (j + 2)) (λ e. ror16-lt _ _)) i h
 
-pub u-lt : (k : Key) → Sound k → pairOf k .u < 2 ^ 32
+words-update : (key i j : ℕ) → i < 8 → j < 8 → digit 65536 (update key) i ‖ digit 65536 (update key) j ≡ wordOn key i ‖ wordOn key j
+words-update key i j h l = ap₂ _‖_ (word-update key i h) (word-update key j l)
+
+-- ---- the pair of a key state, the one a round later and the one two rounds later
+
+pub u-lt : (key : ℕ) → pairOf key .u < 2 ^ 32
 unfolding pairOf
-u-lt k s = digits-lt (s .k5) (s .k4)
+u-lt key = digits-lt (word-lt key 5) (word-lt key 4)
 
-pub v-lt : (k : Key) → Sound k → pairOf k .v < 2 ^ 32
+pub v-lt : (key : ℕ) → pairOf key .v < 2 ^ 32
 unfolding pairOf
-v-lt k s = digits-lt (s .k1) (s .k0)
+v-lt key = digits-lt (word-lt key 1) (word-lt key 0)
 
-updated-halves : (hi lo : ℕ) → hi < 2 ^ 16 → lo < 2 ^ 16 → updated (hi * 2 ^ 16 + lo) ≡ ror16 2 hi * 2 ^ 16 + ror16 12 lo
+pub one-on : (key : ℕ) → pairOf (update key) ≡ record { u = digit 65536 key 7 ‖ digit 65536 key 6; v = digit 65536 key 3 ‖ digit 65536 key 2 }
+unfolding pairOf
+one-on key = λ i. record { u = words-update key 5 4 (lit< tt) (lit< tt) i; v = words-update key 1 0 (lit< tt) (lit< tt) i }
+
+updated-words : (a b : ℕ) → a < 2 ^ 16 → b < 2 ^ 16 → updated (a ‖ b) ≡ ror16 2 a ‖ ror16 12 b
 unfolding updated digit
-updated-halves hi lo h l = ap₂ (λ (a b : ℕ). ror16 2 a * 2 ^ 16 + ror16 12 b) (omega arith) (omega arith)
+updated-words a b h l = ap₂ (λ (x y : ℕ). ror16 2 x ‖ ror16 12 y) (omega arith) (omega arith)
 
 -- two rounds on, V is the U before and U the V before, updated
 abbrev twoOn : Pair → Pair
 twoOn p = record { u = updated (p .v); v = p .u }
 
-two-on : (k : Key) → Sound k → pairOf (update (update k)) ≡ twoOn (pairOf k)
-unfolding pairOf update
-two-on k s = λ i. record { u = sym (updated-halves (k .k1) (k .k0) (s .k1) (s .k0)) i; v = k .k5 * 2 ^ 16 + k .k4 }
+two-on : (key : ℕ) → pairOf (update (update key)) ≡ twoOn (pairOf key)
+unfolding pairOf
+two-on key =
+    one-on (update key)
+    ∙ (λ i. record { u = (words-update key 7 6 (lit< tt) (lit< tt) ∙ sym (updated-words (digit 65536 key 1) (digit 65536 key 0) (word-lt key 1) (word-lt key 0))) i; v = words-update key 3 2 (lit< tt) (lit< tt) i })
 
 -- ---- five rounds
 
-unfoldable pub fourOf : Key → Four
-fourOf k = record { v0 = pairOf k .v; u0 = pairOf k .u; v1 = pairOf (update k) .v; u1 = pairOf (update k) .u }
+unfoldable pub fourOf : ℕ → Four
+fourOf key = record { v0 = pairOf key .v; u0 = pairOf key .u; v1 = pairOf (update key) .v; u1 = pairOf (update key) .u }
 
-abbrev pub fiveOn : Key → Key
-fiveOn k = update (update (update (update (update k))))
+abbrev pub fiveOn : ℕ → ℕ
+fiveOn key = update (update (update (update (update key))))
 
-module _ (k : Key) (s : Sound k) where
-  s1 : Sound (update k)
-  s1 = sound-update k s
+module _ (key : ℕ) where
+  p2 : pairOf (update (update key)) ≡ twoOn (pairOf key)
+  p2 = two-on key
 
-  s2 : Sound (update (update k))
-  s2 = sound-update (update k) s1
+  p3 : pairOf (update (update (update key))) ≡ twoOn (pairOf (update key))
+  p3 = two-on (update key)
 
-  s3 : Sound (update (update (update k)))
-  s3 = sound-update (update (update k)) s2
+  p4 : pairOf (update (update (update (update key)))) ≡ twoOn (twoOn (pairOf key))
+  p4 = two-on (update (update key)) ∙ ap twoOn p2
 
-  s4 : Sound (update (update (update (update k))))
-  s4 = sound-update (update (update (update k))) s3
+  p5 : pairOf (fiveOn key) ≡ twoOn (twoOn (pairOf (update key)))
+  p5 = two-on (update (update (update key))) ∙ ap twoOn p3
 
-  pub sound-five : Sound (fiveOn k)
-  sound-five = sound-update (update (update (update (update k)))) s4
+  p6 : pairOf (update (fiveOn key)) ≡ twoOn (twoOn (twoOn (pairOf key)))
+  p6 = two-on (update (update (update (update key)))) ∙ ap twoOn p4
 
-  p2 : pairOf (update (update k)) ≡ twoOn (pairOf k)
-  p2 = two-on k s
-
-  p3 : pairOf (update (update (update k))) ≡ twoOn (pairOf (update k))
-  p3 = two-on (update k) s1
-
-  p4 : pairOf (update (update (update (update k)))) ≡ twoOn (twoOn (pairOf k))
-  p4 = two-on (update (update k)) s2 ∙ ap twoOn p2
-
-  p5 : pairOf (fiveOn k) ≡ twoOn (twoOn (pairOf (update k)))
-  p5 = two-on (update (update (update k))) s3 ∙ ap twoOn p3
-
-  p6 : pairOf (update (fiveOn k)) ≡ twoOn (twoOn (twoOn (pairOf k)))
-  p6 = two-on (update (update (update (update k)))) s4 ∙ ap twoOn p4
-
-  pub four-later : fourOf (fiveOn k) ≡ fiveLater (fourOf k)
+  pub four-later : fourOf (fiveOn key) ≡ fiveLater (fourOf key)
   unfolding fourOf fiveLater
   four-later =
-      same-four (fourOf (fiveOn k)) (fiveLater (fourOf k)) (ap (λ (p : Pair). p .v) p5) (ap (λ (p : Pair). p .u) p5) (ap (λ (p : Pair). p .v) p6)
+      same-four (fourOf (fiveOn key)) (fiveLater (fourOf key)) (ap (λ (p : Pair). p .v) p5) (ap (λ (p : Pair). p .u) p5) (ap (λ (p : Pair). p .v) p6)
       (ap (λ (p : Pair). p .u) p6)
 
-  -- the words of the five rounds from k on
-  pub ten-words : (r : ℕ) → wordsFrom 0 (pairs pairOf (suc (suc (suc (suc (suc r))))) k) ≡ wordsOf (fiveRounds (fourOf k)) ++ wordsFrom 0 (pairs pairOf r (fiveOn k))
+  -- the words of the five rounds from key on
+  pub ten-words : (r : ℕ) → wordsFrom 0 (pairs pairOf (suc (suc (suc (suc (suc r))))) key) ≡ wordsOf (fiveRounds (fourOf key)) ++ wordsFrom 0 (pairs pairOf r (fiveOn key))
   unfolding pairs wordsFrom fourOf fiveRounds
   ten-words r = rw (p4, p3, p2)
 
@@ -146,33 +126,29 @@ ten-on w v0 u0 v1 u1 =
 
 -- ---- all rounds
 
-abbrev pub tenOn : Key → Ten
-tenOn k = fiveRounds (fourOf k)
+abbrev pub tenOn : ℕ → Ten
+tenOn key = fiveRounds (fourOf key)
 
-ten-later-on : (k : Key) → Sound k → tenLater (tenOn k) ≡ tenOn (fiveOn (fiveOn k))
+ten-later-on : (key : ℕ) → tenLater (tenOn key) ≡ tenOn (fiveOn (fiveOn key))
 unfolding fourOf
-ten-later-on k s =
-    ten-on (fourOf k) (v-lt k s) (u-lt k s) (v-lt (update k) (sound-update k s)) (u-lt (update k) (sound-update k s))
-    ∙ sym (ap fiveRounds (four-later (fiveOn k) (sound-five k s) ∙ ap fiveLater (four-later k s)))
+ten-later-on key =
+    ten-on (fourOf key) (v-lt key) (u-lt key) (v-lt (update key)) (u-lt (update key)) ∙ sym (ap fiveRounds (four-later (fiveOn key) ∙ ap fiveLater (four-later key)))
 
 -- five times n
 abbrev pub fives : ℕ → ℕ
 fives zero = zero
 fives (suc n) = suc (suc (suc (suc (suc (fives n)))))
 
-follow-on : (n : ℕ) (k : Key) → Sound k → following n (tenOn k) (tenOn (fiveOn k)) ≡ wordsFrom 0 (pairs pairOf (fives n) (fiveOn (fiveOn k)))
+follow-on : (n key : ℕ) → following n (tenOn key) (tenOn (fiveOn key)) ≡ wordsFrom 0 (pairs pairOf (fives n) (fiveOn (fiveOn key)))
 unfolding following wordsFrom pairs
-follow-on zero k s = refl
-follow-on (suc n) k s =
-    let t = sound-five k s in
-    ap (λ (x : Ten). wordsOf x ++ following n (tenOn (fiveOn k)) x) (ten-later-on k s)
-    ∙ ap (_++_ (wordsOf (tenOn (fiveOn (fiveOn k))))) (follow-on n (fiveOn k) t)
-    ∙ sym (ten-words (fiveOn (fiveOn k)) (sound-five (fiveOn k) t) (fives n))
+follow-on zero key = refl
+follow-on (suc n) key =
+    ap (λ (x : Ten). wordsOf x ++ following n (tenOn (fiveOn key)) x) (ten-later-on key)
+    ∙ ap (_++_ (wordsOf (tenOn (fiveOn (fiveOn key))))) (follow-on n (fiveOn key))
+    ∙ sym (ten-words (fiveOn (fiveOn key)) (fives n))
 
 -- the words of a key state's rounds are two tens and the tens that follow them
-pub tens-of : (n : ℕ) (k : Key) → Sound k
-    → wordsFrom 0 (pairs pairOf (fives (suc (suc n))) k) ≡ wordsOf (tenOn k) ++ (wordsOf (tenOn (fiveOn k)) ++ following n (tenOn k) (tenOn (fiveOn k)))
-tens-of n k s =
-    let t = sound-five k s in
-    ten-words k s (fives (suc n))
-    ∙ ap (_++_ (wordsOf (tenOn k))) (ten-words (fiveOn k) t (fives n) ∙ ap (_++_ (wordsOf (tenOn (fiveOn k)))) (sym (follow-on n k s)))
+pub tens-of : (n key : ℕ)
+    → wordsFrom 0 (pairs pairOf (fives (suc (suc n))) key) ≡ wordsOf (tenOn key) ++ (wordsOf (tenOn (fiveOn key)) ++ following n (tenOn key) (tenOn (fiveOn key)))
+tens-of n key =
+    ten-words key (fives (suc n)) ∙ ap (_++_ (wordsOf (tenOn key))) (ten-words (fiveOn key) (fives n) ∙ ap (_++_ (wordsOf (tenOn (fiveOn key)))) (sym (follow-on n key)))

@@ -6,3 +6,4 @@ pub mod Growth
 pub mod KeyState
 pub mod KeyBytes
 pub mod Expanded
+pub mod Passing

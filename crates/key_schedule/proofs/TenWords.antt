@@ -3,8 +3,8 @@ use mathlib.Core.Path.{_≡_}
 use Prim.Native.Nat.{ℕ, _^_, _<_}
 use Rattle.bits.proofs.Computed.{agree}
 use Rattle.published.specs.Rounds.{P}
-use Rattle.primitives.specs.Arranged.{N, nibbleAt, arranged}
 use Rattle.primitives.proofs.Moves.{permuted-id}
+use Rattle.round_words.specs.Arranged.{N, nibbleAt, arranged}
 use Rattle.key_schedule.specs.declared.Four.{Four}
 use Rattle.key_schedule.specs.declared.Ten.{Ten}
 

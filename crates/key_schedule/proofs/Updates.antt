@@ -1,26 +1,25 @@
 -- The update of a key word is a move of bits, and so is any number of updates of a word that is kept in an arrangement.
-use mathlib.Core.Path.{_≡_, refl, sym, ap, subst, _∙_}
+use mathlib.Core.Path.{_≡_, refl, sym, ap, _∙_}
 use mathlib.Core.Bool.{Bool, true, false, cond, _&&_}
 use mathlib.Core.List.{[], _∷_}
-use Prim.Native.Nat.{ℕ, zero, suc, _+_, _-_, _*_, _/_, _%_, _^_, _≤_, _<_}
-use native.Mathlib.Nat.{mod-lt, add-comm, add-sub-of-le}
+use Prim.Native.Nat.{ℕ, zero, suc, _+_, _-_, _*_, _%_, _^_, _≤_, _<_}
+use native.Mathlib.Nat.{mod-lt, add-sub-of-le}
 use native.Mathlib.Omega.{arith}
-use borrow.Author.Tests.{ltb-true, ltb-false}
 use lib.Arith.{digits-lt}
 use lib.Bits.{bitAnd, and-lt}
-use lib.Dec.{T, ltb, ltb→lt, lit<, lit≤}
-use lib.Pow.{pow-add, pow-pos, high, shr-lt}
+use lib.Dec.{T, ltb, ltb→lt, lit<}
+use lib.Pow.{high}
+use borrow.Author.Tests.{ltb-true, ltb-false}
 use Rattle.bits.specs.Digit.{digit, bit}
-use Rattle.bits.proofs.Bits.{bit-digit, bit-ext, bit-join-low, bit-mod, bit-shr}
+use Rattle.bits.proofs.Bits.{bit-digit, bit-ext, bit-join-low, bit-ofBits, bit-shr, ofBits-lt}
 use Rattle.bits.proofs.Computed.{and-left, and-right, bounded}
-use Rattle.bits.proofs.Digits.{digit-lt}
 use Rattle.bits.proofs.Reflect.{W, var, lit, and, or, shr, shl, value}
 use Rattle.published.specs.Key.{ror16}
 use Rattle.primitives.specs.Words.{permuted, rorIn}
-use Rattle.primitives.specs.Arranged.{nibbleAt, arranged, stands}
 use Rattle.primitives.proofs.Moves.{bit-permuted, permuted-lt, permuted-then, isMove, moves}
-use Rattle.primitives.proofs.Arrangements.{nibbleAt-lt}
-use Rattle.key_schedule.specs.Update.{updated, updates, later}
+use Rattle.round_words.specs.Arranged.{nibbleAt, arranged, stands}
+use Rattle.round_words.proofs.Arrangements.{nibbleAt-lt}
+use Rattle.key_schedule.specs.InnerUpdate.{updated, updates, later}
 
 -- ---- hi ‖ lo, and a word of 16 bits that goes round
 
@@ -33,32 +32,13 @@ bit-join k hi lo i h = go (ltb i k) refl
         ap (bit (hi * 2 ^ k + lo)) (sym (add-sub-of-le (ltb-false i k e))) ∙ sym (bit-shr (hi * 2 ^ k + lo) k (i - k))
         ∙ ap (λ (m : ℕ). bit m (i - k)) (high hi k h)
 
-module _ (r x : ℕ) (hr : r ≤ 16) (hx : x < 2 ^ 16) where
-  whole : 16 - r + r ≡ 16
-  whole = omega arith
+pub ror16-lt : (r x : ℕ) → ror16 r x < 2 ^ 16
+unfolding ror16
+ror16-lt r x = ofBits-lt 16 (λ i. bit x ((i + r) % 16))
 
-  upper : x / 2 ^ r < 2 ^ (16 - r)
-  upper = shr-lt (16 - r) r (rw whole hx)
-
-  pub ror16-lt : ror16 r x < 2 ^ 16
-  unfolding ror16
-  ror16-lt =
-      let all : 2 ^ r * 2 ^ (16 - r) ≡ 2 ^ 16 = sym (pow-add 2 r (16 - r)) ∙ ap (λ (m : ℕ). 2 ^ m) (add-comm r (16 - r) ∙ whole) in
-      subst (λ (m : ℕ). x % 2 ^ r * 2 ^ (16 - r) + x / 2 ^ r < m) all (digits-lt (mod-lt x (pow-pos r)) upper)
-
-  bit-ror16 : (i : ℕ) → i < 16 → bit (ror16 r x) i ≡ bit x ((i + r) % 16)
-  unfolding ror16
-  bit-ror16 i h = bit-join (16 - r) (x % 2 ^ r) (x / 2 ^ r) i upper ∙ go (ltb i (16 - r)) refl
-    where
-      go : (t : Bool) → ltb i (16 - r) ≡ t → cond t (bit (x / 2 ^ r) i) (bit (x % 2 ^ r) (i - (16 - r))) ≡ bit x ((i + r) % 16)
-      go true e =
-          let l : i < 16 - r = ltb-true i (16 - r) e in
-          let place : r + i ≡ (i + r) % 16 = omega arith in
-          bit-shr x r i ∙ ap (bit x) place
-      go false e =
-          let l : 16 - r ≤ i = ltb-false i (16 - r) e in
-          let place : i - (16 - r) ≡ (i + r) % 16 = omega arith in
-          bit-mod x r (i - (16 - r)) (omega arith) ∙ ap (bit x) place
+bit-ror16 : (r x i : ℕ) → i < 16 → bit (ror16 r x) i ≡ bit x ((i + r) % 16)
+unfolding ror16
+bit-ror16 r x i h = bit-ofBits 16 (λ j. bit x ((j + r) % 16)) i h
 
 -- ---- the update
 
@@ -66,18 +46,14 @@ module _ (r x : ℕ) (hr : r ≤ 16) (hx : x < 2 ^ 16) where
 abbrev pub turned : ℕ → ℕ
 turned i = cond (ltb i 16) (rorIn 16 12 i) (rorIn 16 2 i)
 
-half-lt : (w j : ℕ) → digit 65536 w j < 2 ^ 16
-half-lt w j = digit-lt 65536 (lit< tt) w j
-
 pub updated-lt : (w : ℕ) → updated w < 2 ^ 32
 unfolding updated
-updated-lt w =
-    digits-lt (ror16-lt 2 (digit 65536 w 1) (lit≤ tt) (half-lt w 1)) (ror16-lt 12 (digit 65536 w 0) (lit≤ tt) (half-lt w 0))
+updated-lt w = digits-lt (ror16-lt 2 (digit 65536 w 1)) (ror16-lt 12 (digit 65536 w 0))
 
 bit-updated : (w i : ℕ) → i < 32 → bit (updated w) i ≡ bit w (turned i)
 unfolding updated
 bit-updated w i h =
-    bit-join 16 (ror16 2 (digit 65536 w 1)) (ror16 12 (digit 65536 w 0)) i (ror16-lt 12 (digit 65536 w 0) (lit≤ tt) (half-lt w 0))
+    bit-join 16 (ror16 2 (digit 65536 w 1)) (ror16 12 (digit 65536 w 0)) i (ror16-lt 12 (digit 65536 w 0))
     ∙ go (ltb i 16) refl
   where
     go : (t : Bool) → ltb i 16 ≡ t
@@ -85,11 +61,11 @@ bit-updated w i h =
     go true e =
         let l : i < 16 = ltb-true i 16 e in
         let place : 16 * 0 + (i + 12) % 16 ≡ rorIn 16 12 i = omega arith in
-        bit-ror16 12 (digit 65536 w 0) (lit≤ tt) (half-lt w 0) i l ∙ bit-digit 16 w 0 ((i + 12) % 16) (mod-lt (i + 12) (lit< tt)) ∙ ap (bit w) place
+        bit-ror16 12 (digit 65536 w 0) i l ∙ bit-digit 16 w 0 ((i + 12) % 16) (mod-lt (i + 12) (lit< tt)) ∙ ap (bit w) place
     go false e =
         let l : 16 ≤ i = ltb-false i 16 e in
         let place : 16 * 1 + (i - 16 + 2) % 16 ≡ rorIn 16 2 i = omega arith in
-        bit-ror16 2 (digit 65536 w 1) (lit≤ tt) (half-lt w 1) (i - 16) (omega arith) ∙ bit-digit 16 w 1 ((i - 16 + 2) % 16) (mod-lt (i - 16 + 2) (lit< tt))
+        bit-ror16 2 (digit 65536 w 1) (i - 16) (omega arith) ∙ bit-digit 16 w 1 ((i - 16 + 2) % 16) (mod-lt (i - 16 + 2) (lit< tt))
         ∙ ap (bit w) place
 
 pub updated-move : (w : ℕ) → updated w ≡ permuted turned w

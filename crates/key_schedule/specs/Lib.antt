@@ -1,4 +1,4 @@
--- What the contracts say: the update of a key word, the words of five rounds, and the eighty words of a key.
-pub mod Update
-pub mod Tens
+-- What the contracts say: the eighty words of a key; and inner, the update of a key word and the words of five rounds.
 pub mod Expand
+pub mod InnerUpdate
+pub mod InnerTens

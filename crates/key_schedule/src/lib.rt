@@ -1,4 +1,7 @@
 // key_schedule.rs: the eighty round words of a key, V and U of each round, each kept in its round's arrangement.
+use answers::BAD_KEY_LENGTH;
+use answers::BAD_WORD_COUNT;
+use answers::DONE;
 use primitives::ror;
 use primitives::swapmovesingle;
 use primitives::u32big;
@@ -6,11 +9,10 @@ ghost use mathlib.Core.Path.{_≡_};
 ghost use lib.ListN.{length};
 ghost use Rattle.published.specs.Bytes.{fromBytes};
 ghost use Rattle.primitives.specs.Words.{permuted};
-ghost use Rattle.primitives.specs.Arranged.{arranged};
-ghost use Rattle.key_schedule.specs.Update.{updated, later, tripled};
-ghost use Rattle.key_schedule.specs.Tens.{firstWords, fiveRounds, fiveLater, tenLater, wordsOf, tenOf, grown};
-ghost use Rattle.primitives.specs.Answer.{Gives};
-ghost use Rattle.key_schedule.specs.Expand.{expandCode, expanded};
+ghost use Rattle.round_words.specs.Arranged.{arranged};
+ghost use Rattle.key_schedule.specs.Expand.{expandCode, expanded, Expands};
+ghost use Rattle.key_schedule.specs.InnerUpdate.{updated, later, tripled};
+ghost use Rattle.key_schedule.specs.InnerTens.{firstWords, fiveRounds, fiveLater, tenLater, wordsOf, tenOf, grown};
 
 fn rearrange_rkey_0(x: u32) -> u32
     ensures { λ r. ⌜ r ≡ arranged 1 x ⌝ }
@@ -183,14 +185,13 @@ fn five_rounds(w: Four) -> Ten
     let u2 = key_update(w.v0);
     let u3 = key_update(w.v1);
     let u4 = key_update(w.u0);
-    let kept = rearrange_rkey_2(u2);
     Ten {
         v0: rearrange_rkey_0(w.v0),
         u0: rearrange_rkey_0(w.u0),
         v1: rearrange_rkey_1(w.v1),
         u1: rearrange_rkey_1(w.u1),
         v2: rearrange_rkey_2(w.u0),
-        u2: kept,
+        u2: rearrange_rkey_2(u2),
         v3: rearrange_rkey_3(w.u1),
         u3: rearrange_rkey_3(u3),
         v4: u2,
@@ -289,15 +290,26 @@ fn expand(key: &[u8], rkey: &mut [u32])
     extend(rkey);
 }
 
-pub fn precompute_rkeys(key: &[u8], rkey: &mut [u32]) -> u32
-    ensures { λ r. ⌜ Gives (expandCode (now (key .entry)) (now (rkey .entry))) (expanded (now (key .entry))) (now (rkey .entry)) r (now (rkey .exit)) ⌝ }
+// The number that expansion gives: 1, 4.
+fn expand_code(key: usize, words: usize) -> u32
+    ensures { λ r. ⌜ r ≡ expandCode key words ⌝ }
 {
-    if key.len() != 16 {
-        return 1;
+    if key != 16 {
+        return BAD_KEY_LENGTH;
     }
-    if rkey.len() != 80 {
-        return 4;
+    if words != 80 {
+        return BAD_WORD_COUNT;
+    }
+    DONE
+}
+
+pub fn precompute_rkeys(key: &[u8], rkey: &mut [u32]) -> u32
+    ensures { λ r. ⌜ Expands (now (key .entry)) (now (rkey .entry)) r (now (rkey .exit)) ⌝ }
+{
+    let code = expand_code(key.len(), rkey.len());
+    if code != DONE {
+        return code;
     }
     expand(key, rkey);
-    0
+    code
 }

@@ -5,9 +5,9 @@ use mathlib.Core.List.{List, [], _∷_}
 use Prim.Native.Nat.{ℕ, zero, suc, _+_, _*_, _/_, _^_, _≤_, _<_}
 use native.Mathlib.Nat.{pow-suc}
 use native.Mathlib.Omega.{arith}
-use borrow.Author.Tests.{ltb-true, ltb-false}
 use lib.Dec.{ltb, eqb}
 use lib.ListN.{length, length-append}
+use borrow.Author.Tests.{ltb-true, ltb-false}
 use Rattle.published.specs.Bytes.{toBytes}
 use Rattle.published.specs.Gift128.{encrypted, decrypted}
 use Rattle.published.proofs.Reading.{length-toBytes}

@@ -6,10 +6,10 @@ use Prim.Native.Nat.{ℕ, zero, suc, _+_, _-_, _*_, _/_, _%_, _≤_, _<_}
 use native.Mathlib.Nat.{not-suc-le-zero, le-of-suc-le-suc}
 use native.Mathlib.Numerals.{add-one}
 use native.Mathlib.Omega.{arith}
-use borrow.Author.Tests.{ltb-true, ltb-false, lt-ltb, le-ltb}
 use lib.Dec.{ltb, leb}
 use lib.ListN.{length, getD, drop}
 use lib.Seq.{drop-cons}
+use borrow.Author.Tests.{ltb-true, ltb-false, lt-ltb, le-ltb}
 use Rattle.bits.proofs.Computed.{agree}
 use Rattle.lines.specs.Hex.{hexDigits, placeOf, valueOf, allHex, bytesOf, hexOf}
 use Rattle.lines.specs.Decimal.{lastDigits, decimalOf}

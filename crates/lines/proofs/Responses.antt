@@ -1,21 +1,20 @@
 -- What each letter is answered, and that a call by a key of 16 bytes on a block of 16 bytes leaves what it was to write.
-use mathlib.Core.Path.{_≡_, ap, _∙_}
+use mathlib.Core.Path.{_≡_, _∙_}
 use mathlib.Core.List.{List}
 use Prim.Native.Nat.{ℕ}
-use borrow.Author.Tests.{eq-eqb, ne-eqb}
-use lib.Dec.{eqb}
 use lib.ListN.{length}
-use Rattle.bits.proofs.Computed.{cond-true}
+use borrow.Author.Tests.{eq-eqb, ne-eqb}
+use Rattle.answers.specs.Outcome.{Gives}
 use Rattle.published.specs.Bytes.{fromBytes}
 use Rattle.published.specs.Gift128.{encrypted, decrypted}
-use Rattle.primitives.specs.Answer.{Gives}
-use Rattle.gift128.specs.Calls.{keyCode, afterOne}
-use Rattle.gift128.proofs.Answers.{key-0}
+use Rattle.gift128.specs.Calls.{blockCode, keyCode, afterOne}
 use Rattle.lines.specs.Hex.{hexOf}
 use Rattle.lines.specs.Line.{packedText, response}
 
-pub leaves : (key block : List ℕ) {new left : List ℕ} {r : ℕ} → length key ≡ 16 → length block ≡ 16 → Gives (keyCode key block) new block r left → left ≡ new
-leaves key block k b g = g .leaves ∙ cond-true _ _ _ (ap (λ (n : ℕ). eqb n 0) (key-0 key block k b))
+pub leaves : (key block : List ℕ) {new left : List ℕ} {r : ℕ} → length key ≡ 16 → length block ≡ 16
+    → Gives (keyCode (length key) (length block)) new block r left → left ≡ new
+unfolding keyCode blockCode
+leaves key block k b g = g .leaves ∙ (rw (k, b))
 
 module _ (c : ℕ) (key block : List ℕ) where
   pub response-E : c ≡ 69 → response c key block ≡ hexOf (encrypted key block)

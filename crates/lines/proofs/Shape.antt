@@ -5,17 +5,17 @@ use mathlib.Core.List.{List, [], _∷_, _++_}
 use Prim.Native.Nat.{ℕ, zero, suc, _+_, _*_, _/_, _%_, _<_}
 use native.Mathlib.Nat.{not-suc-le-zero, le-of-suc-le-suc, div-add-mod'}
 use native.Mathlib.Omega.{arith}
-use borrow.Author.Tests.{lt-ltb, eqb-true}
 use lib.Dec.{ltb, eqb, lit≤}
 use lib.ListN.{length, getD, take, drop, length-append, length-drop, take-append-drop}
 use lib.Seq.{take-at, take-all, getD-at, drop-cons, drop-append-add}
+use borrow.Author.Tests.{lt-ltb, eqb-true}
 use Rattle.bits.proofs.Computed.{agree}
-use Rattle.published.proofs.Reading.{Bytes}
+use Rattle.published.specs.Bytes.{Bytes}
 use Rattle.lines.specs.Hex.{hexDigits, placeOf, valueOf, allHex, bytesOf, hexOf}
 use Rattle.lines.specs.Line.{isLetter, isGood, keyText, blockText, lineOf, response, answerOf}
 use Rattle.lines.proofs.Numerals.{both, hex-at}
-use Rattle.lines.proofs.Lengths.{length-hexOf}
 use Rattle.lines.proofs.Good.{good, length-part}
+use Rattle.lines.proofs.Lengths.{length-hexOf}
 
 -- ---- digits written and read
 

@@ -6,10 +6,10 @@ use Prim.Native.Nat.{ℕ, _+_, _-_, _≤_, _<_, min}
 use native.Mathlib.Nat.{min-eq-left, min-le-right}
 use native.Mathlib.Numerals.{add-one}
 use native.Mathlib.Omega.{arith}
-use lib.ListN.{length, getD, take, set, replicate, length-append, length-replicate}
-use borrow.Author.Tests.{leb-true, leb-false}
 use lib.Dec.{leb}
+use lib.ListN.{length, getD, take, set, replicate, length-append, length-replicate}
 use lib.Seq.{set-append-seam, take-set-lt, take-append-le, take-append-seam, take-suc, take-all, take-take}
+use borrow.Author.Tests.{leb-true, leb-false}
 use Rattle.lines.specs.declared.Text.{Text}
 use Rattle.lines.specs.Written.{written}
 use Rattle.lines.specs.Session.{shown}

@@ -6,10 +6,10 @@ use Prim.Native.Nat.{ℕ, suc, _+_, _^_, _≤_, _<_, min}
 use native.Mathlib.Nat.{add-zero, zero-add}
 use native.Mathlib.Numerals.{add-one}
 use native.Mathlib.Omega.{arith}
-use borrow.Author.Tests.{leb-true, leb-false, ltb-true, ltb-false, eq-eqb, ne-eqb, lt-ltb}
 use lib.Dec.{leb, ltb, eqb, eqb·suc-zero}
 use lib.ListN.{length, take, set, length-take, length-set, length-append}
 use lib.Seq.{take-all, take-append-le, take-suc-set}
+use borrow.Author.Tests.{leb-true, leb-false, ltb-true, ltb-false, eq-eqb, ne-eqb, lt-ltb}
 use Rattle.bits.proofs.Computed.{cond-true, cond-false}
 use Rattle.lines.specs.declared.Reader.{Reader}
 use Rattle.lines.specs.Line.{isGood, badLine, answerOf}

@@ -4,9 +4,9 @@ use mathlib.Core.List.{List, [], _∷_, _++_}
 use Prim.Native.Nat.{ℕ, _+_}
 use lib.Dec.{eqb, ltb}
 use lib.ListN.{take, set, replicate}
+use Rattle.lines.specs.declared.Fed.{Fed}
 use Rattle.lines.specs.declared.Reader.{Reader}
 use Rattle.lines.specs.declared.Text.{Text}
-use Rattle.lines.specs.declared.Fed.{Fed}
 use Rattle.lines.specs.Input.{answerLine, firstLine, doneLine}
 use Rattle.lines.specs.Written.{written}
 

@@ -1,4 +1,9 @@
 // A line in, a line out: the line program of document 01, all but the reading and writing.
+use gift128::decrypt_by_key;
+use gift128::encrypt_by_key;
+use gift128::one_round;
+use packing::packing;
+use primitives::State;
 ghost use mathlib.Core.Path.{_≡_};
 ghost use mathlib.Core.Bool.{true};
 ghost use mathlib.Core.List.{List, _++_, _∷_, []};
@@ -11,11 +16,6 @@ ghost use Rattle.lines.specs.Line.{isLetter, isGood, keyText, blockText,
 ghost use Rattle.lines.specs.Input.{answerLine, firstLine, doneLine};
 ghost use Rattle.lines.specs.Written.{written};
 ghost use Rattle.lines.specs.Session.{freshReader, nextLine, held, kept, fedBy, closingOf};
-use gift128::decrypt_by_key;
-use gift128::encrypt_by_key;
-use gift128::one_round;
-use packing::packing;
-use primitives::State;
 
 // A text of up to 64 bytes.
 #[repr(C)]

@@ -6,15 +6,15 @@ use native.Mathlib.Omega.{arith}
 use lib.Dec.{T, ltb, lit<}
 use lib.ListN.{length, getD}
 use Rattle.bits.specs.Digit.{digit, bit}
-use Rattle.bits.proofs.Bits.{bit-digit, bit-ext}
 use Rattle.bits.proofs.Digits.{digit-lt, digit-ext}
-use Rattle.published.specs.Bytes.{fromBytes, toBytes}
-use Rattle.published.proofs.Reading.{Bytes, fromBytes-lt, digit-fromBytes}
-use Rattle.primitives.specs.Words.{permuted}
+use Rattle.bits.proofs.Bits.{bit-digit, bit-ext}
+use Rattle.published.specs.Bytes.{fromBytes, toBytes, Bytes}
+use Rattle.published.proofs.Reading.{fromBytes-lt, digit-fromBytes}
 use Rattle.primitives.specs.declared.State.{State}
+use Rattle.primitives.specs.Words.{permuted}
 use Rattle.primitives.proofs.Moves.{bit-permuted, permuted-lt}
 use Rattle.primitives.proofs.Blocks.{four}
-use Rattle.packing.specs.Halves.{halfPlace, halvesOf, wordAt, wordPut}
+use Rattle.packing.specs.Inner.{halfPlace, halvesOf, wordAt, wordPut}
 
 -- byte m of word j is this byte of the block, counted from the least significant
 abbrev byteOf : ℕ → ℕ → ℕ

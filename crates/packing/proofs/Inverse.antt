@@ -3,14 +3,14 @@ use mathlib.Core.Path.{_≡_, sym, ap, _∙_}
 use mathlib.Core.Bool.{Bool, cond}
 use mathlib.Core.List.{List}
 use Prim.Native.Nat.{ℕ}
-use borrow.Author.Tests.{eq-eqb, ne-eqb}
 use lib.ListN.{length}
-use Rattle.published.specs.Bytes.{fromBytes, toBytes}
-use Rattle.published.proofs.Reading.{Bytes, length-toBytes, from-to, to-from}
+use borrow.Author.Tests.{eq-eqb, ne-eqb}
+use Rattle.published.specs.Bytes.{fromBytes, toBytes, Bytes}
+use Rattle.published.proofs.Reading.{length-toBytes, from-to, to-from}
 use Rattle.published.proofs.Gift128.{block-lt}
-use Rattle.primitives.specs.Packed.{blockOf, stateOf}
 use Rattle.primitives.specs.declared.State.{State}
-use Rattle.primitives.proofs.Blocks.{Words, blockOf-lt, blockOf-stateOf, stateOf-blockOf}
+use Rattle.primitives.specs.Packed.{blockOf, stateOf, Words}
+use Rattle.primitives.proofs.Blocks.{blockOf-lt, blockOf-stateOf, stateOf-blockOf}
 use Rattle.packing.specs.Packing.{noWords, packed, unpacked}
 
 pub packed-block : (bs : List ℕ) → length bs ≡ 16 → packed bs ≡ stateOf (fromBytes bs)

@@ -8,11 +8,11 @@ use lib.Dec.{T, eqb, leb, ltb, ltb→lt}
 use Rattle.bits.specs.Digit.{bit}
 use Rattle.bits.proofs.Bits.{ofBits-cong}
 use Rattle.bits.proofs.Computed.{below, at, agree, bounded}
-use Rattle.primitives.specs.Words.{permuted, swappedLow, swappedHigh, swappedSingle}
 use Rattle.primitives.specs.declared.State.{State}
+use Rattle.primitives.specs.Words.{permuted, swappedLow, swappedHigh, swappedSingle}
 use Rattle.primitives.proofs.Moves.{bit-permuted, permuted-cong, permuted-then}
 use Rattle.primitives.proofs.Swaps.{exchange, apart, swap-is-move}
-use Rattle.packing.specs.Halves.{placed}
+use Rattle.packing.specs.Inner.{placed}
 
 -- the bit of the block that bit i of packed word j is
 abbrev pub packedPlace : ℕ → ℕ → ℕ

@@ -1,3 +1,3 @@
--- What packing and unpacking answer, and the words between bytes and swaps.
+-- What packing and unpacking answer; and inner, the words between bytes and swaps.
 pub mod Packing
-pub mod Halves
+pub mod Inner

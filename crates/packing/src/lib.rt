@@ -8,7 +8,7 @@ ghost use Prim.Native.Nat.{ℕ, _+_, _<_};
 ghost use lib.ListN.{length};
 ghost use Rattle.primitives.specs.Packed.{stateOf};
 ghost use Rattle.packing.specs.Packing.{packed, unpacked};
-ghost use Rattle.packing.specs.Halves.{halvesOf, wordAt, wordPut};
+ghost use Rattle.packing.specs.Inner.{halvesOf, wordAt, wordPut};
 
 // A word as the swaps take it is the two bytes at a place and the two that stand eight bytes on: it is read there, and put there.
 fn word_at(input: &[u8], at: usize) -> u32

@@ -6,8 +6,8 @@ use native.Mathlib.Omega.{arith}
 use Rattle.bits.specs.Digit.{bit}
 use Rattle.bits.proofs.Bits.{bit-ofBits, bit-ext, ofBits-lt}
 use Rattle.published.specs.Packing.{word}
-use Rattle.primitives.specs.Packed.{wordOf, blockOf, stateOf}
 use Rattle.primitives.specs.declared.State.{State}
+use Rattle.primitives.specs.Packed.{wordOf, blockOf, stateOf, Words}
 
 -- a fact of each j below four
 pub four {ℓ} : (P : ℕ → Type ℓ) → P 0 → P 1 → P 2 → P 3 → (j : ℕ) → j < 4 → P j
@@ -16,10 +16,6 @@ four P p0 p1 p2 p3 (suc zero) h = p1
 four P p0 p1 p2 p3 (suc (suc zero)) h = p2
 four P p0 p1 p2 p3 (suc (suc (suc zero))) h = p3
 four P p0 p1 p2 p3 (suc (suc (suc (suc j)))) h = absurd (not-suc-le-zero (le-of-suc-le-suc (le-of-suc-le-suc (le-of-suc-le-suc (le-of-suc-le-suc h)))))
-
--- every word of a state has 32 bits
-abbrev pub Words : State → Type 0
-Words s = (s .s0 < 2 ^ 32) × (s .s1 < 2 ^ 32) × (s .s2 < 2 ^ 32) × (s .s3 < 2 ^ 32)
 
 pub words-at : (s : State) → Words s → (j : ℕ) → j < 4 → wordOf s j < 2 ^ 32
 words-at s h = four (λ (j : ℕ). wordOf s j < 2 ^ 32) (h .0) (h .1) (h .2) (h .3)

@@ -3,10 +3,10 @@ use mathlib.Core.Path.{_≡_, refl, sym, ap, ap₂, _∙_}
 use mathlib.Core.Bool.{Bool, true, false, cond, not, _&&_}
 use Prim.Native.Nat.{ℕ, _+_, _-_, _*_, _/_, _%_, _^_, _<_}
 use native.Mathlib.Nat.{add-comm, add-sub-of-le, mod-lt, lt-of-le-of-lt, div-le-self}
-use borrow.Author.Tests.{leb-true}
 use lib.Bits.{bitAnd, bitXor, and-lt, xor-lt}
 use lib.Dec.{T, leb}
 use lib.Pow.{pow-pos}
+use borrow.Author.Tests.{leb-true}
 use Rattle.bits.specs.Digit.{bit, _⊕_}
 use Rattle.bits.proofs.Bits.{bit-and, bit-xor, bit-shr, bit-shl-cut, bit-ext, bit-ofBits, ofBits-lt, ofBits-cong, ⊕-false, ⊕-comm}
 use Rattle.bits.proofs.Computed.{below, at}

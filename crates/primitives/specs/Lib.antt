@@ -1,5 +1,3 @@
--- What the crates of the port say of words: bits that move, the block that four words stand for, and arrangements.
+-- What the crates of the port say of words: bits that move and the block that four words stand for.
 pub mod Words
 pub mod Packed
-pub mod Arranged
-pub mod Answer

@@ -98,9 +98,8 @@ pub fn swapmove(a: u32, b: u32, mask: u32, n: u32) -> Two
 {
     let k = n % 32;
     let tmp = (b ^ (a >> k)) & mask;
-    let up = tmp << k;
     Two {
-        a: a ^ up,
+        a: a ^ (tmp << k),
         b: b ^ tmp,
     }
 }
@@ -110,6 +109,5 @@ pub fn swapmovesingle(a: u32, mask: u32, n: u32) -> u32
 {
     let k = n % 32;
     let tmp = (a ^ (a >> k)) & mask;
-    let up = tmp << k;
-    (a ^ tmp) ^ up
+    a ^ tmp ^ (tmp << k)
 }

@@ -7,8 +7,8 @@ use lib.ListN.{getD, replicate, set}
 use Rattle.bits.specs.Digit.{digit, number, bit, ofBits}
 use Rattle.published.specs.Bytes.{fromBytes, toBytes}
 use Rattle.published.specs.Rounds.{Pair, entry, subCells, P, moved, permBits, xored, keyBit, constantBit, step, constant, round, rounds}
-use Rattle.published.specs.Key.{keyOf, ror16, update, pairs}
-use Rattle.published.specs.Gift128.{pairOf, pairsOf}
+use Rattle.published.specs.Key.{ror16, update, pairs}
+use Rattle.published.specs.Gift128.{pairOf, pairsOf, rounds128}
 use Rattle.published.specs.Packing.{word}
 
 -- what is looked at, and what it is to be
@@ -61,12 +61,12 @@ facts =
     ∷ (VU 2 is 0x08090a0b ∷ 0x00010203 ∷ [])
     ∷ (VU 3 is 0x04050607 ∷ 0x4303e0f0 ∷ [])
     ∷ (VU 5 is 0x4303e0f0 ∷ 0x41016070 ∷ [])
-    ∷ (toBytes 16 (rounds 128 1 (pairs pairOf 1 (keyOf 0)) 0 0)
+    ∷ (toBytes 16 (rounds128 (pairs pairOf 1 0) 0 0)
     is (0x91 ∷ replicate 14 0x11) ++ (0x19 ∷ []))
     ∷ (map constant (counted 40 1)
     is 0x01 ∷ 0x03 ∷ 0x07 ∷ 0x0F ∷ 0x1F ∷ 0x3E ∷ 0x3D ∷ 0x3B ∷ 0x37 ∷ 0x2F ∷ 0x1E ∷ 0x3C ∷ 0x39 ∷ 0x33 ∷ 0x27 ∷ 0x0E ∷ 0x1D ∷ 0x3A ∷ 0x35 ∷ 0x2B ∷ 0x16 ∷ 0x2C ∷ 0x18 ∷ 0x30 ∷ 0x21 ∷ 0x02 ∷ 0x05 ∷ 0x0B ∷ 0x17 ∷ 0x2E ∷ 0x1C ∷ 0x38 ∷ 0x31 ∷ 0x23 ∷ 0x06 ∷ 0x0D ∷ 0x1B ∷ 0x36 ∷ 0x2D ∷ 0x1A ∷ [])
     ∷ []
 
 pub small-facts : T (hold facts)
-unfolding digit number bit ofBits fromBytes toBytes entry subCells P moved permBits xored keyBit constantBit step constant round rounds keyOf ror16 update pairs pairOf pairsOf word
+unfolding digit number bit ofBits fromBytes toBytes entry subCells P moved permBits xored keyBit constantBit step constant round rounds ror16 update pairs pairOf pairsOf word
 small-facts = tt

@@ -3,15 +3,15 @@ use mathlib.Core.Path.{_≡_, refl, sym, ap, _∙_}
 use mathlib.Core.List.{List}
 use Prim.Native.Nat.{ℕ, zero, suc, _^_, _<_}
 use lib.ListN.{length}
-use Rattle.published.specs.Bytes.{fromBytes, toBytes}
-use Rattle.published.specs.Rounds.{Pair, rounds, unrounds}
-use Rattle.published.specs.Key.{Key, pairs, update}
-use Rattle.published.specs.Gift128.{pairsOf, encrypted, decrypted}
-use Rattle.published.proofs.Reading.{Bytes, from-to, to-from, fromBytes-lt}
+use Rattle.published.specs.Bytes.{fromBytes, toBytes, Bytes}
+use Rattle.published.specs.Rounds.{Pair}
+use Rattle.published.specs.Key.{pairs, update}
+use Rattle.published.specs.Gift128.{pairsOf, rounds128, unrounds128, encrypted, decrypted}
+use Rattle.published.proofs.Reading.{from-to, to-from, fromBytes-lt}
 use Rattle.published.proofs.Steps.{width128}
 use Rattle.published.proofs.Undone.{rounds-lt, unrounds-lt, unrounds-rounds, rounds-unrounds}
 
-pub length-pairs : (uv : Key → Pair) (r : ℕ) (k : Key) → length (pairs uv r k) ≡ r
+pub length-pairs : (uv : ℕ → Pair) (r k : ℕ) → length (pairs uv r k) ≡ r
 unfolding pairs
 length-pairs uv zero k = refl
 length-pairs uv (suc r) k = ap suc (length-pairs uv r (update k))
@@ -29,7 +29,7 @@ module _ (key block : List ℕ) (len : length block ≡ 16) (h : Bytes block) wh
   decrypted-encrypted =
       let ps : List Pair = pairsOf key in
       let s : ℕ = fromBytes block in
-      ap (λ (x : ℕ). toBytes 16 (unrounds 128 1 ps 0 x)) (from-to 16 (rounds 128 1 ps 0 s) (rounds-lt 128 1 width128 ps 0 s (block-lt block len h)))
+      ap (λ (x : ℕ). toBytes 16 (unrounds128 ps 0 x)) (from-to 16 (rounds128 ps 0 s) (rounds-lt 128 1 width128 ps 0 s (block-lt block len h)))
       ∙ ap (toBytes 16) (unrounds-rounds 128 1 width128 ps 0 s (block-lt block len h))
       ∙ whole
 
@@ -38,6 +38,6 @@ module _ (key block : List ℕ) (len : length block ≡ 16) (h : Bytes block) wh
   encrypted-decrypted =
       let ps : List Pair = pairsOf key in
       let s : ℕ = fromBytes block in
-      ap (λ (x : ℕ). toBytes 16 (rounds 128 1 ps 0 x)) (from-to 16 (unrounds 128 1 ps 0 s) (unrounds-lt 128 1 width128 ps 0 s (block-lt block len h)))
+      ap (λ (x : ℕ). toBytes 16 (rounds128 ps 0 x)) (from-to 16 (unrounds128 ps 0 s) (unrounds-lt 128 1 width128 ps 0 s (block-lt block len h)))
       ∙ ap (toBytes 16) (rounds-unrounds 128 1 width128 ps 0 s (block-lt block len h))
       ∙ whole

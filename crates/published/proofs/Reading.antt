@@ -9,9 +9,9 @@ use lib.Arith.{digits-lt}
 use lib.Dec.{lit<}
 use lib.ListN.{length, getD}
 use Rattle.bits.specs.Digit.{digit, number, bit}
-use Rattle.bits.proofs.Bits.{bit-digit}
 use Rattle.bits.proofs.Digits.{number-digit, digit-top, digit-below}
-use Rattle.published.specs.Bytes.{fromBytes, toBytes}
+use Rattle.bits.proofs.Bits.{bit-digit}
+use Rattle.published.specs.Bytes.{fromBytes, toBytes, Bytes}
 
 base : zero < 256
 base = lit< tt
@@ -20,10 +20,6 @@ pub length-toBytes : (k x : ℕ) → length (toBytes k x) ≡ k
 unfolding toBytes
 length-toBytes zero x = refl
 length-toBytes (suc k) x = ap suc (length-toBytes k x)
-
--- every element is a byte: so said, it is what a slice of bytes is known to be
-abbrev pub Bytes : List ℕ → Type 0
-Bytes bs = (i : ℕ) → getD bs i 0 < 256
 
 pub no-bytes : Bytes []
 no-bytes i = base

@@ -1,23 +1,20 @@
 -- What each step of a round does to a nibble or a bit, that it stays within the width, and that its inverse undoes it and is undone by it.
 use mathlib.Core.Path.{_≡_, refl, sym, ap, ap₂, _∙_}
 use mathlib.Core.Bool.{Bool, _&&_}
-use Prim.Native.Nat.{ℕ, zero, suc, _+_, _*_, _/_, _%_, _^_, _≤_, _<_, zero-le}
+use Prim.Native.Nat.{ℕ, zero, suc, _+_, _*_, _/_, _^_, _≤_, _<_, zero-le}
 use native.Mathlib.Nat.{le-refl, le-of-suc-le}
 use native.Mathlib.Decide.{decLt}
 use native.Mathlib.Omega.{arith}
-use borrow.Author.Tests.{lt-ltb, le-ltb}
 use lib.Dec.{ltb, lit<}
-use Rattle.bits.specs.Digit.{digit, number, one, bit, ofBits, _⊕_}
+use borrow.Author.Tests.{lt-ltb, le-ltb}
+use Rattle.bits.specs.Digit.{digit, one, bit, ofBits, _⊕_}
 use Rattle.bits.proofs.Digits.{pow-mul, digit-lt, digit-number, number-cong, number-digit, number-lt}
 use Rattle.bits.proofs.Bits.{bit-digit, bit-ofBits, ofBits-bit, ofBits-cong, ofBits-lt, ofBits-none, ofBits-put, ⊕-twice}
 use Rattle.bits.proofs.Computed.{agree, bounded}
-use Rattle.published.specs.Rounds.{entry, unentry, subCells, unSubCells, P, moved, permBits, unPermBits, xored}
+use Rattle.published.specs.Rounds.{entry, subCells, P, moved, permBits, xored}
+use Rattle.published.specs.Inner.{back, unentry, unPermBits}
 
 -- ---- what the laws ask of a width, one computed test for each width
-
--- where bit q of a permuted state came from
-abbrev pub back : ℕ → ℕ → ℕ
-back n q = 16 * (q % (n / 4) / 4) + 4 * ((q % 4 + 3 * (q / (n / 4))) % 4) + q % 4
 
 pub record Width (n : ℕ) : Type 0 where
   pub whole : 4 * (n / 4) ≡ n
@@ -65,41 +62,25 @@ module _ (n : ℕ) (ok : Width n) where
   nibbles = pow-mul 2 4 (n / 4) ∙ ap (λ (m : ℕ). 2 ^ m) (ok .whole)
 
   -- each nibble through a table, and back through the table that undoes it
-  module _ (f g : ℕ → ℕ) (f-lt : (x : ℕ) → x < 16 → f x < 16) (undo : (x : ℕ) → x < 16 → g (f x) ≡ x) where
-    nibble-of : (s i : ℕ) → i < n / 4 → digit 16 (number 16 (n / 4) (λ k. f (digit 16 s k))) i ≡ f (digit 16 s i)
+  module _ (f : ℕ → ℕ) (f-lt : (x : ℕ) → x < 16 → f x < 16) where
+    nibble-of : (s i : ℕ) → i < n / 4 → digit 16 (subCells f n s) i ≡ f (digit 16 s i)
+    unfolding subCells
     nibble-of s i h = digit-number 16 base (n / 4) (λ k. f (digit 16 s k)) (λ k l. f-lt (digit 16 s k) (digit-lt 16 base s k)) i h
 
-    cells-lt : (s : ℕ) → number 16 (n / 4) (λ k. f (digit 16 s k)) < 2 ^ n
-    cells-lt s = rw (← nibbles) (number-lt 16 base (n / 4) (λ k. f (digit 16 s k)) (λ k l. f-lt (digit 16 s k) (digit-lt 16 base s k)))
+    pub subCells-lt : (s : ℕ) → subCells f n s < 2 ^ n
+    unfolding subCells
+    subCells-lt s = rw (← nibbles) (number-lt 16 base (n / 4) (λ k. f (digit 16 s k)) (λ k l. f-lt (digit 16 s k) (digit-lt 16 base s k)))
 
-    cells-undo : (s : ℕ) → s < 2 ^ n → number 16 (n / 4) (λ i. g (digit 16 (number 16 (n / 4) (λ k. f (digit 16 s k))) i)) ≡ s
-    cells-undo s h =
-        number-cong 16 (n / 4) (λ i. g (digit 16 (number 16 (n / 4) (λ k. f (digit 16 s k))) i)) (digit 16 s)
+    pub subCells-undo : (g : ℕ → ℕ) → ((x : ℕ) → x < 16 → g (f x) ≡ x) → (s : ℕ) → s < 2 ^ n → subCells g n (subCells f n s) ≡ s
+    unfolding subCells
+    subCells-undo g undo s h =
+        number-cong 16 (n / 4) (λ i. g (digit 16 (subCells f n s) i)) (digit 16 s)
         (λ i l. ap g (nibble-of s i l) ∙ undo (digit 16 s i) (digit-lt 16 base s i))
         ∙ number-digit 16 base (n / 4) s (rw nibbles h)
 
-  pub subCells-lt : (s : ℕ) → subCells n s < 2 ^ n
-  unfolding subCells
-  subCells-lt = cells-lt entry unentry entry-lt unentry-entry
-
-  pub unSubCells-lt : (s : ℕ) → unSubCells n s < 2 ^ n
-  unfolding unSubCells
-  unSubCells-lt = cells-lt unentry entry unentry-lt entry-unentry
-
-  pub unSub-sub : (s : ℕ) → s < 2 ^ n → unSubCells n (subCells n s) ≡ s
-  unfolding subCells unSubCells
-  unSub-sub = cells-undo entry unentry entry-lt unentry-entry
-
-  pub sub-unSub : (s : ℕ) → s < 2 ^ n → subCells n (unSubCells n s) ≡ s
-  unfolding subCells unSubCells
-  sub-unSub = cells-undo unentry entry unentry-lt entry-unentry
-
-  -- bit j of nibble i is that bit of the table's entry
-  pub bit-subCells : (s i j : ℕ) → i < n / 4 → j < 4 → bit (subCells n s) (4 * i + j) ≡ bit (entry (digit 16 s i)) j
-  unfolding subCells
-  bit-subCells s i j hi hj =
-      sym (bit-digit 4 (number 16 (n / 4) (λ k. entry (digit 16 s k))) i j hj)
-      ∙ ap (λ (x : ℕ). bit x j) (nibble-of entry unentry entry-lt unentry-entry s i hi)
+    -- bit j of nibble i is that bit of the table's entry
+    pub bit-subCells : (s i j : ℕ) → i < n / 4 → j < 4 → bit (subCells f n s) (4 * i + j) ≡ bit (f (digit 16 s i)) j
+    bit-subCells s i j hi hj = sym (bit-digit 4 (subCells f n s) i j hj) ∙ ap (λ (x : ℕ). bit x j) (nibble-of s i hi)
 
   -- ---- 2. the places
 

@@ -1,19 +1,27 @@
 -- GIFT-128: forty rounds of a key of 16 bytes on a block of 16 bytes, and their undoing.
 use mathlib.Core.List.{List}
-use Prim.Native.Nat.{ℕ, _+_, _*_, _^_}
-use Rattle.published.specs.Bytes.{fromBytes, toBytes}
+use Prim.Native.Nat.{ℕ}
+use Rattle.bits.specs.Digit.{digit}
+use Rattle.published.specs.Bytes.{fromBytes, readBlock, writeBlock}
 use Rattle.published.specs.Rounds.{Pair, rounds, unrounds}
-use Rattle.published.specs.Key.{Key, keyOf, pairs}
+use Rattle.published.specs.Key.{_‖_, pairs}
 
--- U = k5 ‖ k4 and V = k1 ‖ k0.
-unfoldable pub pairOf : Key → Pair
-pairOf k = record { u = k .k5 * 2 ^ 16 + k .k4; v = k .k1 * 2 ^ 16 + k .k0 }
+-- 3. U = k5 ‖ k4 and V = k1 ‖ k0.
+unfoldable pub pairOf : ℕ → Pair
+pairOf key = let k : ℕ → ℕ = digit 65536 key in record { u = k 5 ‖ k 4; v = k 1 ‖ k 0 }
 
 unfoldable pub pairsOf : List ℕ → List Pair
-pairsOf key = pairs pairOf 40 (keyOf (fromBytes key))
+pairsOf key = pairs pairOf 40 (fromBytes key)
+
+-- rounds on 128 bits, U to b(4i+2) and V to b(4i+1)
+abbrev pub rounds128 : List Pair → ℕ → ℕ → ℕ
+rounds128 = rounds 128 1
+
+abbrev pub unrounds128 : List Pair → ℕ → ℕ → ℕ
+unrounds128 = unrounds 128 1
 
 unfoldable pub encrypted : List ℕ → List ℕ → List ℕ
-encrypted key block = toBytes 16 (rounds 128 1 (pairsOf key) 0 (fromBytes block))
+encrypted key block = writeBlock (rounds128 (pairsOf key) 0 (readBlock block))
 
 unfoldable pub decrypted : List ℕ → List ℕ → List ℕ
-decrypted key block = toBytes 16 (unrounds 128 1 (pairsOf key) 0 (fromBytes block))
+decrypted key block = writeBlock (unrounds128 (pairsOf key) 0 (readBlock block))

@@ -1,21 +1,19 @@
 -- The rounds of GIFT as its designers wrote them (IACR ePrint 2017/622), for a block of n bits; GIFT-64 and GIFT-128 share them.
 -- A state is a number of n bits, b(n-1)..b0. Nibble i is b(4i+3)..b(4i), its digit i to base 16.
-use mathlib.Core.Bool.{Bool, true, _&&_, _||_}
+use mathlib.Core.Bool.{Bool, true, cond, _&&_, _||_}
 use mathlib.Core.List.{List, [], _∷_}
 use Prim.Native.Nat.{ℕ, zero, suc, _+_, _-_, _*_, _/_, _%_, _^_}
 use lib.Dec.{eqb, ltb}
 use lib.ListN.{getD}
 use Rattle.bits.specs.Digit.{digit, number, one, bit, ofBits, _⊕_}
 
--- 1. Each nibble x becomes entry x of the table.
-abbrev pub table : List ℕ
-table = 0x1 ∷ 0xa ∷ 0x4 ∷ 0xc ∷ 0x6 ∷ 0xf ∷ 0x3 ∷ 0x9 ∷ 0x2 ∷ 0xd ∷ 0xb ∷ 0x7 ∷ 0x5 ∷ 0x0 ∷ 0x8 ∷ 0xe ∷ []
-
+-- 1. Each nibble x becomes entry x of 1 a 4 c 6 f 3 9 2 d b 7 5 0 8 e.
 unfoldable pub entry : ℕ → ℕ
-entry x = getD table x 0
+entry x = getD (0x1 ∷ 0xa ∷ 0x4 ∷ 0xc ∷ 0x6 ∷ 0xf ∷ 0x3 ∷ 0x9 ∷ 0x2 ∷ 0xd ∷ 0xb ∷ 0x7 ∷ 0x5 ∷ 0x0 ∷ 0x8 ∷ 0xe ∷ []) x 0
 
-unfoldable pub subCells : ℕ → ℕ → ℕ
-subCells n s = number 16 (n / 4) (λ i. entry (digit 16 s i))
+-- a state with each nibble x made f x
+unfoldable pub subCells : (ℕ → ℕ) → ℕ → ℕ → ℕ
+subCells f n s = number 16 (n / 4) (λ i. f (digit 16 s i))
 
 -- 2. Bit i moves to P(i).
 unfoldable pub P : ℕ → ℕ → ℕ
@@ -56,28 +54,21 @@ constant (suc r) = step (constant r)
 
 -- One round by the pair U, V and the constant c.
 unfoldable pub round : ℕ → ℕ → Pair → ℕ → ℕ → ℕ
-round n j p c s = xored n (constantBit n c) (xored n (keyBit j p) (permBits n (subCells n s)))
+round n j p c s = xored n (constantBit n c) (xored n (keyBit j p) (permBits n (subCells entry n s)))
 
 -- A round for each pair of a list, after r rounds.
 unfoldable pub rounds : ℕ → ℕ → List Pair → ℕ → ℕ → ℕ
 rounds n j [] r s = s
 rounds n j (p ∷ ps) r s = rounds n j ps (suc r) (round n j p (constant (suc r)) s)
 
--- Undoing: each step's inverse, the last first.
-abbrev pub inverse : List ℕ
-inverse = 0xd ∷ 0x0 ∷ 0x8 ∷ 0x6 ∷ 0x2 ∷ 0xc ∷ 0x4 ∷ 0xb ∷ 0xe ∷ 0x7 ∷ 0x1 ∷ 0xa ∷ 0x3 ∷ 0x9 ∷ 0xf ∷ 0x5 ∷ []
+-- the number below k that passes a test; 0 if none does
+unfoldable pub find : (ℕ → Bool) → ℕ → ℕ
+find test zero = 0
+find test (suc k) = cond (test k) k (find test k)
 
-unfoldable pub unentry : ℕ → ℕ
-unentry x = getD inverse x 0
-
-unfoldable pub unSubCells : ℕ → ℕ → ℕ
-unSubCells n s = number 16 (n / 4) (λ i. unentry (digit 16 s i))
-
-unfoldable pub unPermBits : ℕ → ℕ → ℕ
-unPermBits n s = ofBits n (λ i. bit s (P n i))
-
+-- Undoing: the state of n bits that the round turns into s. (That there is one and no other is proved.)
 unfoldable pub unround : ℕ → ℕ → Pair → ℕ → ℕ → ℕ
-unround n j p c s = unSubCells n (unPermBits n (xored n (keyBit j p) (xored n (constantBit n c) s)))
+unround n j p c s = find (λ x. eqb (round n j p c x) s) (2 ^ n)
 
 unfoldable pub unrounds : ℕ → ℕ → List Pair → ℕ → ℕ → ℕ
 unrounds n j [] r s = s

@@ -10,7 +10,7 @@ use Rattle.bits.proofs.Bits.{bit-ext, bit-ofBits, bit-out, ofBits-lt, ⊕-equal
 use Rattle.bits.proofs.Reflect.{W, value, value-lt, sized}
 use Rattle.bits.proofs.Pointwise.{flat, on-bits, pointwise, all-sixteen, at-sixteen}
 use Rattle.primitives.specs.declared.State.{State}
-use Rattle.primitives.proofs.Blocks.{Words}
+use Rattle.primitives.specs.Packed.{Words}
 use Rattle.quintuple.specs.Boxes.{column, substituted}
 
 abbrev words : State → List ℕ

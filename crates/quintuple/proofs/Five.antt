@@ -5,24 +5,25 @@ use mathlib.Core.List.{List, [], _∷_}
 use Prim.Native.Nat.{ℕ, zero, suc, _+_, _-_, _/_, _%_, _^_, _≤_, _<_, suc-le-suc}
 use native.Mathlib.Nat.{le-of-suc-le-suc, not-suc-le-zero}
 use native.Mathlib.Omega.{arith}
-use borrow.Author.Tests.{le-leb, lt-leb, eq-eqb, leb-true, eqb-true}
 use lib.Dec.{leb, eqb}
 use lib.ListN.{length, getD, take}
+use borrow.Author.Tests.{le-leb, lt-leb, eq-eqb, leb-true, eqb-true}
 use Rattle.bits.specs.Digit.{bit}
 use Rattle.bits.proofs.Bits.{ofBits-cong}
 use Rattle.bits.proofs.Truth.{both}
 use Rattle.bits.proofs.Computed.{cond-true, cond-false}
-use Rattle.published.specs.Rounds.{constant, round, rounds, unround, unrounds}
-use Rattle.primitives.specs.Packed.{wordOf, blockOf, stateOf}
-use Rattle.primitives.specs.Arranged.{nibbleAt, stands, arranged, constantWord, pairsFrom}
+use Rattle.published.specs.Rounds.{constant, round, unround}
+use Rattle.published.specs.Gift128.{rounds128, unrounds128}
 use Rattle.primitives.specs.declared.State.{State}
-use Rattle.primitives.proofs.Blocks.{Words, four, stateOf-blockOf}
+use Rattle.primitives.specs.Packed.{wordOf, blockOf, stateOf, Words}
 use Rattle.primitives.proofs.Moves.{bit-permuted}
-use Rattle.primitives.proofs.Arrangements.{arranged-lt, stands-arranged}
+use Rattle.primitives.proofs.Blocks.{four, stateOf-blockOf}
+use Rattle.round_words.specs.Arranged.{nibbleAt, stands, arranged, constantWord, pairsFrom}
+use Rattle.round_words.proofs.Arrangements.{arranged-lt, stands-arranged}
 use Rattle.quintuple.specs.declared.Part.{Part}
 use Rattle.quintuple.specs.Quintuple.{good, quintupled, unquintupled}
-use Rattle.quintuple.specs.Inner.{exchangedOf, subround, unsubround, tabled}
-use Rattle.quintuple.proofs.Fixslice.{blockIn, constant-lt, subround-is-round, unsubround-is-unround}
+use Rattle.quintuple.specs.Inner.{exchangedOf, subround, unsubround, tabled, blockIn}
+use Rattle.quintuple.proofs.Fixslice.{constant-lt, subround-is-round, unsubround-is-unround}
 
 and-false : (b : Bool) → (b && false) ≡ false
 and-false false = refl
@@ -114,21 +115,21 @@ module _ (s : State) (ws : List ℕ) (i : ℕ) where
   unstays e = sym (cond-false _ _ _ e)
 
   module _ (few : 10 ≤ length ws) (near : i ≤ 35) (start : i % 5 ≡ 0) (r : State) (hr : Words r) where
-    pub done : blockOf r ≡ rounds 128 1 (pairsFrom 0 (ten ws)) i (blockOf s) → r ≡ quintupled s ws i
+    pub done : blockOf r ≡ rounds128 (pairsFrom 0 (ten ws)) i (blockOf s) → r ≡ quintupled s ws i
     unfolding quintupled
     done e =
         sym
         (cond-true _ _ _ (all-good ws i few near start)
-        ∙ ap (λ (l : List ℕ). stateOf (rounds 128 1 (pairsFrom 0 l) i (blockOf s))) (first-ten ws few)
+        ∙ ap (λ (l : List ℕ). stateOf (rounds128 (pairsFrom 0 l) i (blockOf s))) (first-ten ws few)
         ∙ ap stateOf (sym e)
         ∙ stateOf-blockOf r hr)
 
-    pub undone : blockOf r ≡ unrounds 128 1 (pairsFrom 0 (ten ws)) i (blockOf s) → r ≡ unquintupled s ws i
+    pub undone : blockOf r ≡ unrounds128 (pairsFrom 0 (ten ws)) i (blockOf s) → r ≡ unquintupled s ws i
     unfolding unquintupled
     undone e =
         sym
         (cond-true _ _ _ (all-good ws i few near start)
-        ∙ ap (λ (l : List ℕ). stateOf (unrounds 128 1 (pairsFrom 0 l) i (blockOf s))) (first-ten ws few)
+        ∙ ap (λ (l : List ℕ). stateOf (unrounds128 (pairsFrom 0 l) i (blockOf s))) (first-ten ws few)
         ∙ ap stateOf (sym e)
         ∙ stateOf-blockOf r hr)
 

@@ -7,30 +7,28 @@ use Prim.Native.Nat.{ℕ, zero, suc, _+_, _-_, _*_, _/_, _%_, _^_, _<_, zero-le,
 use native.Mathlib.Nat.{le-of-suc-le-suc, eq-or-lt-of-le, div-add-mod, lt-of-le-of-lt, lt-of-lt-of-le, sub-le}
 use native.Mathlib.Decide.{decLt}
 use native.Mathlib.Omega.{arith}
-use borrow.Author.Tests.{ne-eqb, lt-ltb, le-ltb}
 use lib.Bits.{bitXor, xor-lt}
 use lib.Dec.{eqb, eqb→eq, ltb, ltb→lt, lit<, lit≤}
-use Rattle.bits.specs.Digit.{digit, isOne, bit, ofBits, _⊕_}
+use borrow.Author.Tests.{ne-eqb, lt-ltb, le-ltb}
+use Rattle.bits.specs.Digit.{digit, bit, _⊕_}
 use Rattle.bits.proofs.Digits.{digit-lt, digit-top}
 use Rattle.bits.proofs.Bits.{bit-digit, bit-ext, bit-ofBits, bit-out, bit-join-low, bit-xor, ofBits-bit, ofBits-cong, ofBits-lt, one-lt, ⊕-false, ⊕-assoc, ⊕-twice}
 use Rattle.bits.proofs.Computed.{below, at, agree, bounded}
-use Rattle.published.specs.Rounds.{P, Pair, entry, unentry, subCells, permBits, xored, keyBit, constantBit, step, constant, round, unround}
-use Rattle.published.proofs.Steps.{back, width128, unentry-lt, entry-unentry, bit-subCells, bit-permBits, bit-xored}
+use Rattle.published.specs.Rounds.{P, Pair, entry, subCells, permBits, xored, keyBit, constantBit, step, constant, round, unround}
+use Rattle.published.specs.Inner.{back, unentry}
+use Rattle.published.proofs.Steps.{width128, entry-lt, unentry-lt, entry-unentry, bit-subCells, bit-permBits, bit-xored}
 use Rattle.published.proofs.Undone.{round-lt, unround-round}
-use Rattle.primitives.specs.Words.{permuted}
-use Rattle.primitives.specs.Packed.{wordOf, blockOf}
-use Rattle.primitives.specs.Arranged.{N, nibbleAt, stands}
 use Rattle.primitives.specs.declared.State.{State}
-use Rattle.primitives.proofs.Blocks.{Words, words-at, four, same-words}
+use Rattle.primitives.specs.Words.{permuted}
+use Rattle.primitives.specs.Packed.{wordOf, blockOf, Words}
 use Rattle.primitives.proofs.Moves.{bit-permuted, permuted-lt, permuted-id, permuted-then}
-use Rattle.primitives.proofs.Arrangements.{nibbleAt-lt, there-and-back}
+use Rattle.primitives.proofs.Blocks.{words-at, four, same-words}
+use Rattle.round_words.specs.Arranged.{N, nibbleAt, stands}
+use Rattle.round_words.proofs.Arrangements.{nibbleAt-lt, there-and-back}
 use Rattle.quintuple.specs.Boxes.{column, substituted, boxed}
-use Rattle.quintuple.specs.Inner.{exchangedOf, move, unmove, subround, unmoved, unsubround}
+use Rattle.quintuple.specs.Inner.{blockIn, exchangedOf, move, unmove, subround, unmoved, unsubround}
 
 -- ---- the block that four words stand for, k rounds in
-
-unfoldable pub blockIn : ℕ → State → ℕ
-blockIn k s = ofBits 128 (λ q. bit (wordOf s (q % 4)) (nibbleAt (5 - k) (q / 4)))
 
 pub blockIn-lt : (k : ℕ) (s : State) → blockIn k s < 2 ^ 128
 unfolding blockIn
@@ -108,12 +106,12 @@ module _ (p : Pair) (c b n j : ℕ) (hn : n < 32) (hj : j < 4) where
       ≡ bit (entry (digit 16 b (back 128 (4 * n + j) / 4))) j ⊕ keyBit 1 p (4 * n + j) ⊕ constantBit 128 c (4 * n + j)
   unfolding round
   bit-round =
-      bit-xored 128 (constantBit 128 c) (xored 128 (keyBit 1 p) (permBits 128 (subCells 128 b))) (4 * n + j) (omega arith)
+      bit-xored 128 (constantBit 128 c) (xored 128 (keyBit 1 p) (permBits 128 (subCells entry 128 b))) (4 * n + j) (omega arith)
       ∙ ap (λ (x : Bool). x ⊕ constantBit 128 c (4 * n + j))
-      (bit-xored 128 (keyBit 1 p) (permBits 128 (subCells 128 b)) (4 * n + j) (omega arith)
+      (bit-xored 128 (keyBit 1 p) (permBits 128 (subCells entry 128 b)) (4 * n + j) (omega arith)
       ∙ ap (λ (x : Bool). x ⊕ keyBit 1 p (4 * n + j))
-      (bit-permBits 128 width128 (subCells 128 b) (4 * n + j) (omega arith) ∙ ap (bit (subCells 128 b)) back-keeps
-      ∙ bit-subCells 128 width128 b (back 128 (4 * n + j) / 4) j source-lt hj))
+      (bit-permBits 128 width128 (subCells entry 128 b) (4 * n + j) (omega arith) ∙ ap (bit (subCells entry 128 b)) back-keeps
+      ∙ bit-subCells 128 width128 entry entry-lt b (back 128 (4 * n + j) / 4) j source-lt hj))
 
 -- what the key and the constant put into bit j of nibble n: bit n of 0, V, U or the constant's word
 abbrev keyWord : Pair → ℕ → ℕ → ℕ
@@ -128,7 +126,7 @@ unfolding bit
 constant-bit c n hc hn = ⊎-elim top under (eq-or-lt-of-le (le-of-suc-le-suc hn))
   where
     top : n ≡ 31 → eqb (4 * n + 3) 127 ⊕ (ltb n 6 && bit c n) ≡ bit (2 ^ 31 + c) n
-    top e = rw e (ap (λ (m : ℕ). isOne m) (sym (digit-top 2 (lit< tt) 31 1 c (lit< tt) (lt-of-lt-of-le hc (lit≤ tt)))))
+    top e = rw e (ap (λ (m : ℕ). eqb m 1) (sym (digit-top 2 (lit< tt) 31 1 c (lit< tt) (lt-of-lt-of-le hc (lit≤ tt)))))
 
     under : n < 31 → eqb (4 * n + 3) 127 ⊕ (ltb n 6 && bit c n) ≡ bit (2 ^ 31 + c) n
     under h =

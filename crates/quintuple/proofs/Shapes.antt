@@ -4,12 +4,13 @@ use Prim.Native.Nat.{ℕ}
 use lib.Bits.{bitXor}
 use lib.Dec.{T, eqb, ltb}
 use Rattle.bits.proofs.Computed.{below, agree, bounded}
-use Rattle.published.specs.Rounds.{entry, unentry}
-use Rattle.primitives.specs.Words.{permuted, swappedSingle}
+use Rattle.published.specs.Rounds.{entry}
+use Rattle.published.specs.Inner.{unentry}
 use Rattle.primitives.specs.declared.State.{State}
-use Rattle.primitives.proofs.Blocks.{same-words}
+use Rattle.primitives.specs.Words.{permuted, swappedSingle}
 use Rattle.primitives.proofs.Moves.{permuted-cong, permuted-then}
 use Rattle.primitives.proofs.Swaps.{exchange, apart, swap-is-move}
+use Rattle.primitives.proofs.Blocks.{same-words}
 use Rattle.quintuple.specs.Boxes.{boxed}
 use Rattle.quintuple.specs.Inner.{exchangedOf, move, unmove, subround, unsubround}
 

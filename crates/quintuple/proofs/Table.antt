@@ -7,7 +7,7 @@ use Rattle.bits.specs.Digit.{digit, number, bit, ofBits}
 use Rattle.bits.proofs.Computed.{agree}
 use Rattle.published.specs.Rounds.{P, step, constant}
 use Rattle.primitives.specs.Words.{permuted}
-use Rattle.primitives.specs.Arranged.{N, nibbleAt, arranged, constantWord}
+use Rattle.round_words.specs.Arranged.{N, nibbleAt, arranged, constantWord}
 
 -- what the rule says of n rounds from round r on: for all 40 this computes to the table of the source, number for number
 abbrev pub ruled : ℕ → ℕ → List ℕ

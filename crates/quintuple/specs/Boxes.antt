@@ -1,8 +1,8 @@
 -- The S-box on words: place i of the four words is a nibble, and each nibble goes through a table.
 use Prim.Native.Nat.{ℕ}
 use Rattle.bits.specs.Digit.{bit, ofBits}
-use Rattle.primitives.specs.Packed.{wordOf}
 use Rattle.primitives.specs.declared.State.{State}
+use Rattle.primitives.specs.Packed.{wordOf}
 
 -- the nibble whose bit j is bit i of word j
 unfoldable pub column : State → ℕ → ℕ

@@ -1,15 +1,21 @@
--- What the private functions give; no public contract cites this. The moves are said by what they mean, not by how the code makes them.
+-- Inner: the block that words stand for within a quintuple, and what the private functions make of such words. The moves are said by what they mean, not by how the code makes them.
 use mathlib.Core.List.{List}
 use Prim.Native.Nat.{ℕ, suc, _+_, _-_, _*_, _/_, _%_}
-use lib.ListN.{getD}
 use lib.Bits.{bitXor}
-use Rattle.published.specs.Rounds.{P, entry, unentry}
-use Rattle.published.proofs.Steps.{back}
-use Rattle.primitives.specs.Words.{permuted}
-use Rattle.primitives.specs.Arranged.{nibbleAt, constantWord}
+use lib.ListN.{getD}
+use Rattle.bits.specs.Digit.{bit, ofBits}
+use Rattle.published.specs.Rounds.{P, entry}
+use Rattle.published.specs.Inner.{back, unentry}
 use Rattle.primitives.specs.declared.State.{State}
+use Rattle.primitives.specs.Words.{permuted}
+use Rattle.primitives.specs.Packed.{wordOf}
+use Rattle.round_words.specs.Arranged.{nibbleAt, constantWord}
 use Rattle.quintuple.specs.declared.Part.{Part}
 use Rattle.quintuple.specs.Boxes.{substituted, boxed}
+
+-- the block that four words stand for, k rounds in
+unfoldable pub blockIn : ℕ → State → ℕ
+blockIn k s = ofBits 128 (λ q. bit (wordOf s (q % 4)) (nibbleAt (5 - k) (q / 4)))
 
 abbrev pub exchangedOf : State → State
 exchangedOf s = record { s0 = s .s3; s1 = s .s1; s2 = s .s2; s3 = s .s0 }

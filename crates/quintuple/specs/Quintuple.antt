@@ -4,10 +4,10 @@ use mathlib.Core.List.{List}
 use Prim.Native.Nat.{ℕ, _%_}
 use lib.Dec.{leb, eqb}
 use lib.ListN.{length, take}
-use Rattle.published.specs.Rounds.{rounds, unrounds}
-use Rattle.primitives.specs.Packed.{blockOf, stateOf}
-use Rattle.primitives.specs.Arranged.{pairsFrom}
+use Rattle.published.specs.Gift128.{rounds128, unrounds128}
 use Rattle.primitives.specs.declared.State.{State}
+use Rattle.primitives.specs.Packed.{blockOf, stateOf}
+use Rattle.round_words.specs.Arranged.{pairsFrom}
 
 -- ten words at least, and an offset that is one of 0, 5, .. 35
 abbrev pub good : List ℕ → ℕ → Bool
@@ -15,12 +15,12 @@ good ws i = leb 10 (length ws) && (leb i 35 && eqb (i % 5) 0)
 
 -- rounds i + 1 to i + 5 done; the state as it was where there are too few words or no such offset
 unfoldable pub quintupled : State → List ℕ → ℕ → State
-quintupled s ws i = cond (good ws i) (stateOf (rounds 128 1 (pairsFrom 0 (take 10 ws)) i (blockOf s))) s
+quintupled s ws i = cond (good ws i) (stateOf (rounds128 (pairsFrom 0 (take 10 ws)) i (blockOf s))) s
 
 -- rounds i + 5 to i + 1 undone
 unfoldable pub unquintupled : State → List ℕ → ℕ → State
-unquintupled s ws i = cond (good ws i) (stateOf (unrounds 128 1 (pairsFrom 0 (take 10 ws)) i (blockOf s))) s
+unquintupled s ws i = cond (good ws i) (stateOf (unrounds128 (pairsFrom 0 (take 10 ws)) i (blockOf s))) s
 
 -- round 1 alone, by the first two words
 unfoldable pub firstRound : State → List ℕ → State
-firstRound s ws = cond (leb 2 (length ws)) (stateOf (rounds 128 1 (pairsFrom 0 (take 2 ws)) 0 (blockOf s))) s
+firstRound s ws = cond (leb 2 (length ws)) (stateOf (rounds128 (pairsFrom 0 (take 2 ws)) 0 (blockOf s))) s

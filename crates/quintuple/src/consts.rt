@@ -3,7 +3,7 @@ ghost use mathlib.Core.Path.{_≡_};
 ghost use mathlib.Core.Bool.{cond};
 ghost use Prim.Native.Nat.{_%_};
 ghost use lib.Dec.{ltb};
-ghost use Rattle.primitives.specs.Arranged.{constantWord};
+ghost use Rattle.round_words.specs.Arranged.{constantWord};
 
 pub const GIFT_RC: [u32; 40] = [
     0x10000008,

@@ -1,12 +1,6 @@
 // The boxes and rounds of primitives.rs: the S-box and its inverse, five rounds and their undoing.
-ghost use mathlib.Core.Path.{_≡_};
-ghost use Rattle.published.specs.Rounds.{entry, unentry};
-ghost use Rattle.quintuple.specs.Boxes.{boxed};
-ghost use Rattle.primitives.specs.Arranged.{stands};
-ghost use Prim.Native.Nat.{_≤_};
-ghost use lib.ListN.{length};
-ghost use Rattle.quintuple.specs.Quintuple.{good, quintupled, unquintupled, firstRound};
-ghost use Rattle.quintuple.specs.Inner.{exchangedOf, subround, unsubround, partOf};
+use consts::GIFT_RC;
+use consts::round_constant;
 use primitives::State;
 use primitives::byte_ror_2;
 use primitives::byte_ror_4;
@@ -19,11 +13,17 @@ use primitives::nibble_ror_2;
 use primitives::nibble_ror_3;
 use primitives::ror;
 use primitives::swapmovesingle;
+ghost use mathlib.Core.Path.{_≡_};
+ghost use Prim.Native.Nat.{_≤_};
+ghost use lib.ListN.{length};
+ghost use Rattle.published.specs.Rounds.{entry};
+ghost use Rattle.published.specs.Inner.{unentry};
+ghost use Rattle.round_words.specs.Arranged.{stands};
+ghost use Rattle.quintuple.specs.Boxes.{boxed};
+ghost use Rattle.quintuple.specs.Quintuple.{good, quintupled, unquintupled, firstRound};
+ghost use Rattle.quintuple.specs.Inner.{exchangedOf, subround, unsubround, partOf};
 
 pub mod consts;
-
-use consts::GIFT_RC;
-use consts::round_constant;
 
 // The table on every column. It leaves s0 and s3 exchanged.
 pub fn sbox(s: State) -> State
@@ -274,13 +274,7 @@ pub fn quintuple_round(state: State, rkey: &[u32], i: usize) -> State
     let c = round_2(exchanged(b), p.v2, p.u2, p.c2);
     let d = round_3(exchanged(c), p.v3, p.u3, p.c3);
     let e = round_4(exchanged(d), p.v4, p.u4, p.c4);
-    // Five exchanges are one: s0 and s3 are put back.
-    State {
-        s0: e.s3,
-        s1: e.s1,
-        s2: e.s2,
-        s3: e.s0,
-    }
+    exchanged(e)
 }
 
 // The same rounds undone, the last first. The exchange of s0 and s3 is undone first of all.
@@ -291,23 +285,11 @@ pub fn inv_quintuple_round(state: State, rkey: &[u32], i: usize) -> State
         return state;
     }
     let p = read_part(rkey, i);
-    let x = State {
-        s0: state.s3,
-        s1: state.s1,
-        s2: state.s2,
-        s3: state.s0,
-    };
-    let a = inv_round_4(x, p.v4, p.u4, p.c4);
+    let a = inv_round_4(exchanged(state), p.v4, p.u4, p.c4);
     let b = inv_round_3(exchanged(a), p.v3, p.u3, p.c3);
     let c = inv_round_2(exchanged(b), p.v2, p.u2, p.c2);
     let d = inv_round_1(exchanged(c), p.v1, p.u1, p.c1);
-    let e = inv_round_0(exchanged(d), p.v0, p.u0, p.c0);
-    State {
-        s0: e.s0,
-        s1: e.s1,
-        s2: e.s2,
-        s3: e.s3,
-    }
+    inv_round_0(exchanged(d), p.v0, p.u0, p.c0)
 }
 
 // A word that was kept one round in, put in place again: the swaps of the crate's rearrange_rkey_0, the last first.

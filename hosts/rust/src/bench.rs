@@ -1,9 +1,12 @@
-//! The bench: four lanes that take turns, a few rounds at a time.
+//! The bench: lanes that take turns, a few rounds at a time.
 
 use core::fmt;
 use core::mem::offset_of;
 
 use crate::{calls, Refusal};
+
+/// How many lanes a bench has.
+const LANES: usize = 4;
 
 /// What a lane is opened for.
 #[derive(Clone, Copy, Debug, PartialEq, Eq, Hash)]
@@ -35,7 +38,7 @@ pub struct Lane {
     /// 0 encrypts, 1 decrypts.
     pub direction: u8,
     /// Its own turns since it was opened.
-    pub count: u8,
+    pub count: u16,
     /// Its round words. They stay after a take or a close, until the next opening.
     pub words: [u32; 80],
     /// Its block, as far as it has come.
@@ -86,13 +89,13 @@ impl fmt::Debug for Lane {
     }
 }
 
-/// Four lanes, and the number of the one last served.
+/// [`Bench::LANES`] lanes, and the number of the one last served.
 ///
 /// An opened lane that is not closed is finished no later than the 32nd turn made after its opening, whatever the other lanes do. On a refusal the bench is
 /// as it was.
 #[derive(Clone, Debug, PartialEq, Eq)]
 pub struct Bench {
-    lanes: [Lane; 4],
+    lanes: [Lane; LANES],
     last: u32,
 }
 
@@ -104,7 +107,7 @@ impl Default for Bench {
 
 impl Bench {
     /// How many lanes a bench has.
-    pub const LANES: u32 = 4;
+    pub const LANES: u32 = LANES as u32;
     /// The most turns that one call may ask for.
     pub const MOST_TURNS: u32 = 1024;
     /// A lane's own turns from its opening until it is finished, each of five rounds.
@@ -113,19 +116,19 @@ impl Bench {
     /// A fresh bench: every lane is idle, and the first turn looks at lane 0 first.
     pub const fn new() -> Bench {
         Bench {
-            lanes: [Lane::FRESH; 4],
-            last: 3,
+            lanes: [Lane::FRESH; LANES],
+            last: Bench::LANES - 1,
         }
     }
 
-    /// A bench of records from elsewhere. Sound ones are served with the words that they hold; where one is not sound, or `last` is above 3, every
+    /// A bench of records from elsewhere. Sound ones are served with the words that they hold; where one is not sound, or `last` is no lane's number, every
     /// call answers [`Refusal::BadBench`].
-    pub const fn from_records(lanes: [Lane; 4], last: u32) -> Bench {
+    pub const fn from_records(lanes: [Lane; LANES], last: u32) -> Bench {
         Bench { lanes, last }
     }
 
-    /// The four records.
-    pub const fn records(&self) -> &[Lane; 4] {
+    /// The records.
+    pub const fn records(&self) -> &[Lane; LANES] {
         &self.lanes
     }
 

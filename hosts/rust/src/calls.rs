@@ -1,8 +1,10 @@
-//! The library's eleven functions, each over slices and plain numbers: all that can be refused is. The only unsafe code of the crate.
+//! The library's functions, each over slices and plain numbers: all that can be refused is. The only unsafe code of the crate.
 //!
 //! What include/gift_host.h asks of a host is what references already are: not null, aligned, as long as they say, everything in them given a
 //! value, and a `&mut` alone in reaching what it reaches. So each call is safe.
 #![allow(unsafe_code)]
+
+use core::sync::atomic::{AtomicBool, Ordering};
 
 use crate::bench::Lane;
 use crate::Refusal;
@@ -26,6 +28,7 @@ struct Told {
 const _: () = assert!(size_of::<Told>() == 12);
 
 extern "C" {
+    fn gift_host_edition() -> u32;
     fn gift_encrypt_by_key(key: *const u8, key_len: usize, block: *mut u8, block_len: usize)
         -> u32;
     fn gift_decrypt_by_key(key: *const u8, key_len: usize, block: *mut u8, block_len: usize)
@@ -82,6 +85,27 @@ extern "C" {
     fn gift_close(lanes: *mut Lane, lanes_len: usize, last: u32, lane: u32) -> u32;
 }
 
+/// The edition of the library that this crate declares, as GIFT_HOST_EDITION of include/gift_host.h.
+pub const EDITION: u32 = 1;
+
+/// The edition of the library that is linked.
+pub fn edition() -> u32 {
+    unsafe { gift_host_edition() }
+}
+
+/// Looks at the edition before the first call: records and arguments of another one would be misread.
+fn linked() {
+    static SEEN: AtomicBool = AtomicBool::new(false);
+    if !SEEN.load(Ordering::Relaxed) {
+        assert_eq!(
+            edition(),
+            EDITION,
+            "libgift_host.a is of another edition than this crate"
+        );
+        SEEN.store(true, Ordering::Relaxed);
+    }
+}
+
 fn answer(number: u32) -> Result<(), Refusal> {
     if number == 0 {
         return Ok(());
@@ -93,16 +117,19 @@ fn answer(number: u32) -> Result<(), Refusal> {
 
 /// Encrypts one block by a key, in place. Refusals: 1, 2.
 pub fn encrypt_by_key(key: &[u8], block: &mut [u8]) -> Result<(), Refusal> {
+    linked();
     answer(unsafe { gift_encrypt_by_key(key.as_ptr(), key.len(), block.as_mut_ptr(), block.len()) })
 }
 
 /// Decrypts one block by a key, in place. Refusals: 1, 2.
 pub fn decrypt_by_key(key: &[u8], block: &mut [u8]) -> Result<(), Refusal> {
+    linked();
     answer(unsafe { gift_decrypt_by_key(key.as_ptr(), key.len(), block.as_mut_ptr(), block.len()) })
 }
 
 /// Encrypts one block by 80 round words, in place: those of [`expand`], or any others. Refusals: 4, 2.
 pub fn encrypt_by_words(words: &[u32], block: &mut [u8]) -> Result<(), Refusal> {
+    linked();
     answer(unsafe {
         gift_encrypt_by_words(words.as_ptr(), words.len(), block.as_mut_ptr(), block.len())
     })
@@ -110,6 +137,7 @@ pub fn encrypt_by_words(words: &[u32], block: &mut [u8]) -> Result<(), Refusal> 
 
 /// Decrypts one block by 80 round words, in place. Refusals: 4, 2.
 pub fn decrypt_by_words(words: &[u32], block: &mut [u8]) -> Result<(), Refusal> {
+    linked();
     answer(unsafe {
         gift_decrypt_by_words(words.as_ptr(), words.len(), block.as_mut_ptr(), block.len())
     })
@@ -117,11 +145,13 @@ pub fn decrypt_by_words(words: &[u32], block: &mut [u8]) -> Result<(), Refusal> 
 
 /// Fills `words` with the 80 round words of a key. Refusals: 1, 4.
 pub fn expand(key: &[u8], words: &mut [u32]) -> Result<(), Refusal> {
+    linked();
     answer(unsafe { gift_expand(key.as_ptr(), key.len(), words.as_mut_ptr(), words.len()) })
 }
 
 /// Encrypts many blocks by a key: block n of the output from block n of the input, each by itself. Refusals: 1, 2, 3.
 pub fn encrypt_blocks(key: &[u8], input: &[u8], output: &mut [u8]) -> Result<(), Refusal> {
+    linked();
     answer(unsafe {
         gift_encrypt_blocks(
             key.as_ptr(),
@@ -136,6 +166,7 @@ pub fn encrypt_blocks(key: &[u8], input: &[u8], output: &mut [u8]) -> Result<(),
 
 /// Decrypts many blocks by a key. Refusals: 1, 2, 3.
 pub fn decrypt_blocks(key: &[u8], input: &[u8], output: &mut [u8]) -> Result<(), Refusal> {
+    linked();
     answer(unsafe {
         gift_decrypt_blocks(
             key.as_ptr(),
@@ -157,6 +188,7 @@ pub fn open_lane(
     key: &[u8],
     block: &[u8],
 ) -> Result<(), Refusal> {
+    linked();
     answer(unsafe {
         gift_open_lane(
             lanes.as_mut_ptr(),
@@ -174,6 +206,7 @@ pub fn open_lane(
 
 /// Makes as many turns as are asked for, or fewer if no lane runs any more. Refusals: 10, 8; then no turn was made.
 pub fn turn(lanes: &mut [Lane], last: u32, asked: u32) -> Result<Turns, Refusal> {
+    linked();
     let told = unsafe { gift_turn(lanes.as_mut_ptr(), lanes.len(), last, asked) };
     answer(told.code)?;
     Ok(Turns {
@@ -184,6 +217,7 @@ pub fn turn(lanes: &mut [Lane], last: u32, asked: u32) -> Result<Turns, Refusal>
 
 /// Writes the 16 bytes of a finished lane, which is idle afterwards. Refusals: 10, 5, 7, 2.
 pub fn take(lanes: &mut [Lane], last: u32, lane: u32, out: &mut [u8]) -> Result<(), Refusal> {
+    linked();
     answer(unsafe {
         gift_take(
             lanes.as_mut_ptr(),
@@ -198,5 +232,6 @@ pub fn take(lanes: &mut [Lane], last: u32, lane: u32, out: &mut [u8]) -> Result<
 
 /// Makes a lane idle as after a take, whatever it was. Refusals: 10, 5.
 pub fn close(lanes: &mut [Lane], last: u32, lane: u32) -> Result<(), Refusal> {
+    linked();
     answer(unsafe { gift_close(lanes.as_mut_ptr(), lanes.len(), last, lane) })
 }

@@ -22,6 +22,11 @@ fn numbers_and_names() {
     assert_eq!(told.len(), 10);
 }
 
+#[test]
+fn the_edition_that_is_linked() {
+    assert_eq!(calls::edition(), calls::EDITION);
+}
+
 /// What a call on a copy of the lent buffer must answer, and that it leaves the buffer as it is exactly if it is refused.
 fn hold<T>(
     lent: &[T],
@@ -134,7 +139,7 @@ const LONG: &[u8] = &[6; 17];
 #[test]
 fn bench_refusals_in_order() {
     let bench = some_bench();
-    for lane in [4, 5, 255, 256, 257, 1 << 16, 1 << 31, u32::MAX] {
+    for lane in [Bench::LANES, Bench::LANES + 1, 255, 256, 257, 1 << 16, 1 << 31, u32::MAX] {
         assert_eq!(
             refused(&bench, |b| b.open(lane, Direction::Encrypt, SHORT, LONG)),
             BadLane
@@ -221,8 +226,8 @@ fn unsound_benches() {
     let mut refusals = 0;
     for phase in [0, 1, 2, 3, 255] {
         for direction in [0, 1, 2, 255] {
-            for count in [0, 1, 7, 8, 9, 255] {
-                for place in 0..4 {
+            for count in [0, 1, 7, 8, 9, 255, 256, 263, 264, 65535] {
+                for place in 0..Bench::LANES as usize {
                     let mut lanes = *some_bench().records();
                     lanes[place] = Lane {
                         phase,
@@ -251,7 +256,7 @@ fn unsound_benches() {
         }
     }
     assert!(refusals > 300);
-    for last in [4, 5, 255, 256, 1 << 31, u32::MAX] {
+    for last in [Bench::LANES, Bench::LANES + 1, 255, 256, 1 << 31, u32::MAX] {
         let bench = Bench::from_records(*some_bench().records(), last);
         assert_eq!(
             refused(&bench, |b| b.open(2, Direction::Encrypt, KEY, BLOCK)),

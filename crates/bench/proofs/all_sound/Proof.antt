@@ -2,9 +2,9 @@
 use mathlib.Core.Path.{_≡_, refl, sym, _∙_}
 use Prim.Native.Nat.{_≤_, _-_}
 use native.Mathlib.Omega.{arith}
+use lib.ListN.{length, drop}
 use borrow.Author.Needs.{needs}
 use borrow.Author.Tests.{not-true, not-false}
-use lib.ListN.{length, drop}
 use Rattle.bench.specs.Turning.{laneCount}
 use Rattle.bench.specs.Calls.{allSound}
 use Rattle.bench.proofs.Soundness.{not-all, one-more, all-seen}

@@ -1,19 +1,14 @@
 -- `bench::sound` tells whether a bench is sound.
-use mathlib.Core.Path.{_≡_, sym, _∙_}
-use mathlib.Core.List.{List, map}
-use Prim.Native.Nat.{ℕ}
+use mathlib.Core.Path.{_≡_}
 use native.Mathlib.Omega.{arith}
-use lib.ListN.{length, length-map}
+use lib.ListN.{length}
 use borrow.Author.Needs.{needs}
 use borrow.Author.Tests.{eq-eqb, lt-ltb, le-ltb}
 use Rattle.bench.specs.Turning.{laneCount}
 use Rattle.bench.specs.Calls.{soundBench}
+use Rattle.bench.proofs.Soundness.{unmapped}
 use Rattle.bench.proofs.sound.Statement.{statement}
 use Rattle.bench.proofs.sound.Tie as tie
-
--- an array of records is known to be long enough as what the machine keeps of them
-unmapped : (X Y : Type 0) (f : X → Y) (l : List X) (n : ℕ) → length (map f l) ≡ n → length l ≡ n
-unmapped X Y f l n e = sym (length-map l f) ∙ e
 
 returns : tie.Need-returns
 unfolding laneCount soundBench

@@ -1,18 +1,11 @@
 -- `bench::turn_once` makes one turn.
-use mathlib.Core.Path.{_≡_, sym, ap, _∙_}
-use Prim.Native.Nat.{ℕ}
+use mathlib.Core.Path.{_≡_, sym}
 use borrow.Author.Needs.{needs}
-use Rattle.bench.specs.declared.Bench.{Bench}
-use Rattle.bench.specs.Turning.{laneCount, after, seek, chosen}
-use Rattle.bench.proofs.Seeking.{after-lt}
+use Rattle.bench.specs.Turning.{laneCount, chosen}
+use Rattle.bench.proofs.Seeking.{after-lt, chosen-is}
 use Rattle.bench.proofs.Made.{turned-at, turned-none, chosen-none}
 use Rattle.bench.proofs.turn_once.Statement.{statement}
 use Rattle.bench.proofs.turn_once.Tie as tie
-
--- the search that starts after the last served lane finds the chosen one
-found : (b : Bench) {i n : ℕ} → i ≡ after (b .last) → n ≡ seek laneCount (b .lanes) i → n ≡ chosen b
-unfolding chosen
-found b e f = f ∙ ap (seek laneCount (b .lanes)) e
 
 seek-requires : tie.Need-seek-requires
 seek-requires c κs = rw (c .after .ensures) (after-lt _)
@@ -21,14 +14,14 @@ returns : tie.Need-returns
 unfolding laneCount
 returns c =
     let b = c .before .before .before .before .before .before .before .args .b in
-    let is : c .before .before .before .seek .result ≡ chosen b = found b (c .before .before .before .before .after .ensures) (c .before .before .before .seek .ensures) in
+    let is : c .before .before .before .seek .result ≡ chosen b = chosen-is b (c .before .before .before .before .after .ensures) (c .before .before .before .seek .ensures) in
     (is, turned-at b _ _ is (c .before .before .if1 .taken) (c .served .ensures))
 
 returns-2 : tie.Need-returns-2
 unfolding laneCount
 returns-2 c =
     let b = c .before .before .before .before .before .args .b in
-    let is : c .before .seek .result ≡ chosen b = found b (c .before .before .after .ensures) (c .before .seek .ensures) in
+    let is : c .before .seek .result ≡ chosen b = chosen-is b (c .before .before .after .ensures) (c .before .seek .ensures) in
     (is, sym (turned-none b (chosen-none b _ is (c .if1 .left))))
 
 pub turn-once-spec : {M : Type 1} → statement M

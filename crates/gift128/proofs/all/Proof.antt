@@ -3,9 +3,9 @@ use mathlib.Core.Path.{_≡_, refl, sym, _∙_}
 use mathlib.Core.List.{List}
 use Prim.Native.Nat.{ℕ, _+_, _-_, _/_, _%_, _≤_}
 use native.Mathlib.Omega.{arith}
+use lib.ListN.{length, take}
 use borrow.Rule.Slice.PartMut.{same-len-mid}
 use denote.Ref.{now}
-use lib.ListN.{length, take}
 use Rattle.gift128.specs.Calls.{eachBlock}
 use Rattle.gift128.specs.Ways.{crossedBy}
 use Rattle.gift128.proofs.Many.{each-none, sixteen, one-more, all-written}

@@ -3,21 +3,21 @@ use mathlib.Core.Path.{_≡_, refl, sym, ap, _∙_}
 use mathlib.Core.List.{List}
 use Prim.Native.Nat.{ℕ, _+_, _-_, _*_, _%_, _≤_}
 use native.Mathlib.Omega.{arith}
+use lib.ListN.{drop}
 use borrow.Rule.Slice.PartAt.{part-to-end}
 use denote.Ref.{now}
-use lib.ListN.{drop}
-use Rattle.published.specs.Rounds.{unrounds}
+use Rattle.published.specs.Gift128.{unrounds128}
 use Rattle.primitives.specs.Packed.{blockOf, stateOf}
-use Rattle.primitives.specs.Arranged.{pairsFrom}
 use Rattle.primitives.specs.declared.State.{State}
 use Rattle.primitives.proofs.Blocks.{stateOf-blockOf, blockOf-lt}
+use Rattle.round_words.specs.Arranged.{pairsFrom}
 use Rattle.quintuple.specs.Quintuple.{unquintupled}
 use Rattle.quintuple.proofs.Eight.{backward, none-undone}
 use Rattle.gift128.proofs.decrypt_state.Statement.{statement}
 use Rattle.gift128.proofs.decrypt_state.Tie as tie
 
 abbrev Inv-loop : tie.InvT-loop
-Inv-loop rkey state₀ i₀ state i = (i % 5 ≡ 0) × (i ≤ 40) × (state ≡ stateOf (unrounds 128 1 (drop i (pairsFrom 0 rkey)) i (blockOf state₀)))
+Inv-loop rkey state₀ i₀ state i = (i % 5 ≡ 0) × (i ≤ 40) × (state ≡ stateOf (unrounds128 (drop i (pairsFrom 0 rkey)) i (blockOf state₀)))
 
 abbrev μ-loop : tie.MeasureT-loop
 μ-loop rkey state₀ i₀ state i = i
@@ -39,7 +39,7 @@ loop-again c =
       omega arith,
       omega arith,
       c .inv-quintuple-round .ensures ∙ ap (λ (part : List ℕ). unquintupled (l .state) part i) (part-to-end ws (2 * i))
-          ∙ ap (λ (s : State). unquintupled s (drop (2 * i) ws) i) (l .inv .2 ∙ ap (λ (j : ℕ). stateOf (unrounds 128 1 (drop j (pairsFrom 0 ws)) j x)) five)
+          ∙ ap (λ (s : State). unquintupled s (drop (2 * i) ws) i) (l .inv .2 ∙ ap (λ (j : ℕ). stateOf (unrounds128 (drop j (pairsFrom 0 ws)) j x)) five)
           ∙ backward ws (start .pre) x (blockOf-lt (start .args .s)) i (omega arith) (omega arith),
     )
 
@@ -48,7 +48,7 @@ returns c =
     let l = c .before .loop in
     let start = c .before .before .before in
     let none : l .i ≡ 0 = omega arith in
-    l .inv .2 ∙ ap (λ (i : ℕ). stateOf (unrounds 128 1 (drop i (pairsFrom 0 (now (start .args .rkey)))) i (blockOf (start .args .s)))) none
+    l .inv .2 ∙ ap (λ (i : ℕ). stateOf (unrounds128 (drop i (pairsFrom 0 (now (start .args .rkey)))) i (blockOf (start .args .s)))) none
 
 pub decrypt-state-spec : {M : Type 1} → statement M
 decrypt-state-spec =

@@ -3,21 +3,22 @@ use mathlib.Core.Path.{_≡_, refl, sym, ap, _∙_}
 use mathlib.Core.List.{List}
 use Prim.Native.Nat.{ℕ, _-_, _*_, _%_, _≤_, _<_}
 use native.Mathlib.Omega.{arith}
+use lib.ListN.{take, drop}
 use borrow.Rule.Slice.PartAt.{part-to-end}
 use denote.Ref.{now}
-use lib.ListN.{take, drop}
 use Rattle.published.specs.Rounds.{rounds}
+use Rattle.published.specs.Gift128.{rounds128}
 use Rattle.primitives.specs.Packed.{blockOf, stateOf}
-use Rattle.primitives.specs.Arranged.{pairsFrom}
 use Rattle.primitives.specs.declared.State.{State}
 use Rattle.primitives.proofs.Blocks.{stateOf-blockOf, blockOf-lt}
+use Rattle.round_words.specs.Arranged.{pairsFrom}
 use Rattle.quintuple.specs.Quintuple.{quintupled}
 use Rattle.quintuple.proofs.Eight.{forward, all-done}
 use Rattle.gift128.proofs.encrypt_state.Statement.{statement}
 use Rattle.gift128.proofs.encrypt_state.Tie as tie
 
 abbrev Inv-loop : tie.InvT-loop
-Inv-loop rkey state₀ i₀ state i = (i % 5 ≡ 0) × (i ≤ 40) × (state ≡ stateOf (rounds 128 1 (take i (pairsFrom 0 rkey)) 0 (blockOf state₀)))
+Inv-loop rkey state₀ i₀ state i = (i % 5 ≡ 0) × (i ≤ 40) × (state ≡ stateOf (rounds128 (take i (pairsFrom 0 rkey)) 0 (blockOf state₀)))
 
 abbrev μ-loop : tie.MeasureT-loop
 μ-loop rkey state₀ i₀ state i = 40 - i
@@ -46,7 +47,7 @@ returns c =
     let start = c .before .before .before in
     let whole : l .i ≡ 40 = omega arith in
     l .inv .2
-    ∙ ap (λ (i : ℕ). stateOf (rounds 128 1 (take i (pairsFrom 0 (now (start .args .rkey)))) 0 (blockOf (start .args .s)))) whole
+    ∙ ap (λ (i : ℕ). stateOf (rounds128 (take i (pairsFrom 0 (now (start .args .rkey)))) 0 (blockOf (start .args .s)))) whole
     ∙ all-done (now (start .args .rkey)) (start .pre) (blockOf (start .args .s)) (blockOf-lt (start .args .s))
 
 pub encrypt-state-spec : {M : Type 1} → statement M

@@ -1,7 +1,7 @@
 -- `gift128::in_place`: packed, taken through the rounds, unpacked.
-use borrow.Author.Needs.{needs}
 use mathlib.Core.List.{List}
 use Prim.Native.Nat.{ℕ}
+use borrow.Author.Needs.{needs}
 use denote.Ref.{now}
 use Rattle.gift128.proofs.Blocks.{crossing}
 use Rattle.gift128.proofs.in_place.Statement.{statement}

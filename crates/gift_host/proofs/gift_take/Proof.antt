@@ -9,8 +9,8 @@ use prog.Memory.{Memory}
 use prog.Routine.{Routine}
 use prog.Wp.{Heap, WpFn, Tables}
 use ghost.Atoms.{Atoms}
-use sound.WpLaws.{fmOf}
 use contract.Monad.{Fun}
+use sound.WpLaws.{fmOf}
 use types.Kit.{Given, raw, _$_, _∵_, !, qed, move, done}
 use types.Run.{look, init, forget, stop, from, load, no-more, and-then, returns, enter, params1, pass1, pass0}
 use denote.Builtin.{u8}
@@ -18,8 +18,8 @@ use denote.Plain.{uint-vals, uint-tells, uint-lawful}
 use denote.Slice.{slice-vals, mut-slice-tells}
 use denote.Triple.Spec.{Spec, Meets, tripleOf}
 use denote.Triple.Statement.{Contract, Triple}
-use Rattle.bench_lent.proofs.Rows.{R}
-use Rattle.bench_lent.proofs.Through.{relent}
+use Rattle.bench_lent.proofs.Lending.{R}
+use Rattle.bench_lent.proofs.Steps.{relent}
 use Rattle.bench_lent.proofs.Walk.{allocated, freed}
 use Rattle.bench_lent.proofs.take as take
 use Rattle.bench_lent.proofs.take.Symbol as take-def

@@ -1,8 +1,8 @@
 -- `gift_lines::show` is safe: its count lies within the text.
 use mathlib.Core.Path.{_≡_}
 use native.Mathlib.Omega.{arith}
-use borrow.Author.Needs.{needs}
 use lib.ListN.{length}
+use borrow.Author.Needs.{needs}
 use Rattle.gift_lines.proofs.show.Statement.{statement}
 use Rattle.gift_lines.proofs.show.Tie as tie
 

@@ -1,7 +1,7 @@
 -- `key_schedule::expand` leaves the eighty words of the key.
 use mathlib.Core.Path.{ap, _∙_}
 use borrow.Author.Needs.{needs}
-use Rattle.key_schedule.specs.Tens.{fiveRounds, fiveLater, wordsOf}
+use Rattle.key_schedule.specs.InnerTens.{fiveRounds, fiveLater, wordsOf}
 use Rattle.key_schedule.proofs.Expanded.{filled}
 use Rattle.key_schedule.proofs.expand.Statement.{statement}
 use Rattle.key_schedule.proofs.expand.Tie as tie

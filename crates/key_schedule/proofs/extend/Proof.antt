@@ -2,9 +2,9 @@
 use mathlib.Core.Path.{_≡_, sym, ap, _∙_}
 use Prim.Native.Nat.{ℕ, suc, _+_, _-_, _*_, _≤_}
 use native.Mathlib.Omega.{arith}
-use borrow.Rule.Slice.PartMut.{same-len-mid}
 use lib.ListN.{length, length-take, length-drop}
-use Rattle.key_schedule.specs.Tens.{wordsOf, tenLater, grown}
+use borrow.Rule.Slice.PartMut.{same-len-mid}
+use Rattle.key_schedule.specs.InnerTens.{wordsOf, tenLater, grown}
 use Rattle.key_schedule.proofs.Growth.{grownFrom, turn, no-more}
 use Rattle.key_schedule.proofs.extend.Statement.{statement}
 use Rattle.key_schedule.proofs.extend.Tie as tie

@@ -1,6 +1,6 @@
 -- `key_schedule::first_words` reads V and U of the first two rounds from the key's bytes.
 use borrow.Author.Needs.{needs}
-use Rattle.key_schedule.specs.Tens.{firstWords}
+use Rattle.key_schedule.specs.InnerTens.{firstWords}
 use Rattle.key_schedule.proofs.TenWords.{same-four}
 use Rattle.key_schedule.proofs.first_words.Statement.{statement}
 use Rattle.key_schedule.proofs.first_words.Tie as tie

@@ -1,7 +1,7 @@
 -- `key_schedule::five_later` takes two rounds' words five rounds further.
 use mathlib.Core.Path.{ap, _∙_}
-use Rattle.key_schedule.specs.Update.{updated}
-use Rattle.key_schedule.specs.Tens.{fiveLater}
+use Rattle.key_schedule.specs.InnerUpdate.{updated}
+use Rattle.key_schedule.specs.InnerTens.{fiveLater}
 use Rattle.key_schedule.proofs.TenWords.{same-four}
 use Rattle.key_schedule.proofs.five_later.Statement.{statement}
 use Rattle.key_schedule.proofs.five_later.Tie as tie

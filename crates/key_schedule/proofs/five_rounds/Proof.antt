@@ -1,8 +1,8 @@
 -- `key_schedule::five_rounds` makes the words of five rounds of those of the first two.
 use mathlib.Core.Path.{sym, ap, _∙_}
-use Rattle.primitives.specs.Arranged.{arranged}
-use Rattle.key_schedule.specs.Update.{updated}
-use Rattle.key_schedule.specs.Tens.{fiveRounds}
+use Rattle.round_words.specs.Arranged.{arranged}
+use Rattle.key_schedule.specs.InnerUpdate.{updated}
+use Rattle.key_schedule.specs.InnerTens.{fiveRounds}
 use Rattle.key_schedule.proofs.Updates.{updated-lt}
 use Rattle.key_schedule.proofs.TenWords.{same-ten, arranged-five}
 use Rattle.key_schedule.proofs.five_rounds.Statement.{statement}
@@ -11,20 +11,28 @@ use Rattle.key_schedule.proofs.five_rounds.Tie as tie
 returns : tie.Need-returns
 unfolding fiveRounds
 returns c =
-    let k = c .before .before .before .before .before .before .before .before in
-    let w = k .before .before .before .args .w in
-    let u2 = k .before .before .key-update .ensures in
+    -- cN: the place N things back
+    let c1 = c .before in
+    let c2 = c1 .before in
+    let c3 = c2 .before in
+    let c4 = c3 .before in
+    let c5 = c4 .before in
+    let c6 = c5 .before in
+    let c7 = c6 .before in
+    let c8 = c7 .before in
+    let w = c8 .before .before .before .args .w in
+    let u2 = c8 .before .before .key-update .ensures in
     same-ten _ _
-    (c .before .before .before .before .before .before .rearrange-rkey-0 .ensures)
-    (c .before .before .before .before .before .rearrange-rkey-02 .ensures)
-    (c .before .before .before .before .rearrange-rkey-1 .ensures)
-    (c .before .before .before .rearrange-rkey-12 .ensures)
-    (c .before .before .rearrange-rkey-22 .ensures)
-    (c .before .before .before .before .before .before .before .rearrange-rkey-2 .ensures ∙ ap (arranged 3) u2)
-    (c .before .rearrange-rkey-3 .ensures)
-    (c .rearrange-rkey-32 .ensures ∙ ap (arranged 4) (k .before .key-update2 .ensures))
+    (c7 .rearrange-rkey-0 .ensures)
+    (c6 .rearrange-rkey-02 .ensures)
+    (c5 .rearrange-rkey-1 .ensures)
+    (c4 .rearrange-rkey-12 .ensures)
+    (c3 .rearrange-rkey-2 .ensures)
+    (c2 .rearrange-rkey-22 .ensures ∙ ap (arranged 3) u2)
+    (c1 .rearrange-rkey-3 .ensures)
+    (c .rearrange-rkey-32 .ensures ∙ ap (arranged 4) (c8 .before .key-update2 .ensures))
     (u2 ∙ sym (arranged-five (updated (w .v0)) (updated-lt (w .v0))))
-    (k .key-update3 .ensures ∙ sym (arranged-five (updated (w .u0)) (updated-lt (w .u0))))
+    (c8 .key-update3 .ensures ∙ sym (arranged-five (updated (w .u0)) (updated-lt (w .u0))))
 
 pub five-rounds-spec : {M : Type 1} → statement M
 five-rounds-spec =

@@ -2,7 +2,7 @@
 use mathlib.Core.Path.{ap₂, _∙_}
 use lib.Bits.{bitOr}
 use Rattle.published.specs.Rounds.{P}
-use Rattle.primitives.specs.Arranged.{N, nibbleAt}
+use Rattle.round_words.specs.Arranged.{N, nibbleAt}
 use Rattle.key_schedule.proofs.Updates.{is-later, _∣_, around, goes-around}
 use Rattle.key_schedule.proofs.key_double_update_2.Statement.{statement}
 use Rattle.key_schedule.proofs.key_double_update_2.Tie as tie

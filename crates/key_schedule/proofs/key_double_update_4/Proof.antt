@@ -1,6 +1,6 @@
 -- `key_schedule::key_double_update_4` makes two updates in arrangement 5, by the test.
 use Rattle.published.specs.Rounds.{P}
-use Rattle.primitives.specs.Arranged.{N, nibbleAt}
+use Rattle.round_words.specs.Arranged.{N, nibbleAt}
 use Rattle.key_schedule.proofs.Updates.{is-later, _∣_, down, up}
 use Rattle.key_schedule.proofs.key_double_update_4.Statement.{statement}
 use Rattle.key_schedule.proofs.key_double_update_4.Tie as tie

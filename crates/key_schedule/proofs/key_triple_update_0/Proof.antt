@@ -2,7 +2,7 @@
 use mathlib.Core.Path.{ap₂, _∙_}
 use lib.Bits.{bitOr}
 use Rattle.primitives.proofs.Moves.{moves}
-use Rattle.key_schedule.specs.Update.{tripled}
+use Rattle.key_schedule.specs.InnerUpdate.{tripled}
 use Rattle.key_schedule.proofs.Updates.{_∣_, around, goes-around}
 use Rattle.key_schedule.proofs.key_triple_update_0.Statement.{statement}
 use Rattle.key_schedule.proofs.key_triple_update_0.Tie as tie

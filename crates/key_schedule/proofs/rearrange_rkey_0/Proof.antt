@@ -2,7 +2,7 @@
 use mathlib.Core.List.{[], _∷_}
 use Rattle.bits.specs.Digit.{digit, bit}
 use Rattle.published.specs.Rounds.{P}
-use Rattle.primitives.specs.Arranged.{N, nibbleAt}
+use Rattle.round_words.specs.Arranged.{N, nibbleAt}
 use Rattle.key_schedule.proofs.Exchanges.{_with_, swaps-arrange}
 use Rattle.key_schedule.proofs.rearrange_rkey_0.Statement.{statement}
 use Rattle.key_schedule.proofs.rearrange_rkey_0.Tie as tie

@@ -3,10 +3,10 @@ use mathlib.Core.Path.{ap, _∙_}
 use mathlib.Core.List.{List, _++_}
 use Prim.Native.Nat.{ℕ}
 use native.Mathlib.Omega.{arith}
-use borrow.Author.Needs.{needs}
 use lib.ListN.{length-set, drop-of-length-le}
 use lib.Seq.{sets-eq}
-use Rattle.key_schedule.specs.Tens.{wordsOf}
+use borrow.Author.Needs.{needs}
+use Rattle.key_schedule.specs.InnerTens.{wordsOf}
 use Rattle.key_schedule.proofs.store.Statement.{statement}
 use Rattle.key_schedule.proofs.store.Tie as tie
 

@@ -1,6 +1,6 @@
 -- `key_schedule::ten_later` makes the ten words that stand twenty further.
 use borrow.Author.Needs.{needs}
-use Rattle.key_schedule.specs.Tens.{tenLater}
+use Rattle.key_schedule.specs.InnerTens.{tenLater}
 use Rattle.key_schedule.proofs.Exchanges.{double-0, triple-0}
 use Rattle.key_schedule.proofs.TenWords.{same-ten}
 use Rattle.key_schedule.proofs.ten_later.Statement.{statement}

@@ -3,9 +3,9 @@ use mathlib.Core.Path.{_≡_, sym, ap, _∙_}
 use mathlib.Core.List.{List, [], _∷_}
 use Prim.Native.Nat.{ℕ}
 use native.Mathlib.Omega.{arith}
-use borrow.Author.Needs.{needs}
 use lib.ListN.{length, getD, drop-of-length-le}
 use lib.Seq.{drop-cons}
+use borrow.Author.Needs.{needs}
 use Rattle.published.specs.Bytes.{fromBytes}
 use Rattle.key_schedule.proofs.u32big_of.Statement.{statement}
 use Rattle.key_schedule.proofs.u32big_of.Tie as tie

@@ -8,12 +8,12 @@ use borrow.Fn.PlainCycle.{Measures, is, falls, and}
 use Rattle.lines.specs.Decimal.{decimalOf}
 use Rattle.lines.specs.Written.{written}
 use Rattle.lines.proofs.Numerals.{decimal-short, decimal-long}
-use Rattle.lines.proofs.push_decimal.Reads as own
-use Rattle.lines.proofs.push_decimal.Kinds as kinds
-use Rattle.lines.proofs.+push_decimal.Lts-push_decimal as lts
-use Rattle.lines.proofs.push.Reads as push
 use Rattle.lines.proofs.+push_decimal.{statement}
 use Rattle.lines.proofs.+push_decimal.Tie.{close}
+use Rattle.lines.proofs.+push_decimal.Lts-push_decimal as lts
+use Rattle.lines.proofs.push.Reads as push
+use Rattle.lines.proofs.push_decimal.Kinds as kinds
+use Rattle.lines.proofs.push_decimal.Reads as own
 
 abbrev μ : Measures 0 kinds.ps ℕ
 μ κs a = a .1 .0

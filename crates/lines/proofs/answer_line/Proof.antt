@@ -3,12 +3,12 @@ use mathlib.Core.Path.{_≡_, ap, _∙_}
 use mathlib.Core.List.{List, [], _∷_, _++_}
 use Prim.Native.Nat.{ℕ}
 use native.Mathlib.Omega.{arith}
-use borrow.Author.Needs.{needs}
 use lib.ListN.{length}
+use borrow.Author.Needs.{needs}
 use Rattle.lines.specs.Line.{answerOf}
 use Rattle.lines.specs.Input.{answerLine}
-use Rattle.lines.specs.Session.{held}
 use Rattle.lines.specs.Written.{written}
+use Rattle.lines.specs.Session.{held}
 use Rattle.lines.proofs.Texts.{take-most}
 use Rattle.lines.proofs.answer_line.Statement.{statement}
 use Rattle.lines.proofs.answer_line.Tie as tie

@@ -1,6 +1,9 @@
 -- `lines::feed` ends the line at a newline and keeps any other byte.
+use mathlib.Core.Path.{_≡_}
 use borrow.Author.Tests.{eq-eqb, ne-eqb}
-use Rattle.lines.specs.Session.{ended, fedBy}
+use Rattle.lines.specs.Input.{answerLine}
+use Rattle.lines.specs.Written.{written}
+use Rattle.lines.specs.Session.{held, ended, fedBy}
 use Rattle.lines.proofs.feed.Statement.{statement}
 use Rattle.lines.proofs.feed.Tie as tie
 
@@ -8,7 +11,8 @@ returns : tie.Need-returns
 unfolding fedBy ended
 returns c =
     let c2 = c .before .before in
-    rw (eq-eqb _ _ (c2 .before .if1 .taken), ← c2 .next-line .ensures, ← c .before .answer-line .ensures)
+    let text : c .before .answer-line .result ≡ written (answerLine (c2 .next-line .result) (held (c2 .before .before .args .r))) = c .before .answer-line .ensures in
+    rw (eq-eqb _ _ (c2 .before .if1 .taken), ← c2 .next-line .ensures, ← text)
 
 returns-2 : tie.Need-returns-2
 unfolding fedBy

@@ -1,32 +1,37 @@
 -- `lines::is_good` tries the parts of a line in the order of the definition.
-use mathlib.Core.Path.{sym, _∙_}
+use mathlib.Core.Path.{_≡_, sym, _∙_}
 use Prim.Native.Nat.{ℕ, _≤_}
-use borrow.Author.Tests.{eq-eqb, ne-eqb, not-true, not-false}
+use native.Mathlib.Omega.{arith}
 use lib.Dec.{lit≤}
 use lib.ListN.{length}
+use borrow.Author.Tests.{eq-eqb, ne-eqb, not-true, not-false}
 use Rattle.lines.specs.Line.{isGood}
 use Rattle.lines.proofs.is_good.Statement.{statement}
 use Rattle.lines.proofs.is_good.Tie as tie
 
+-- past the first test there are 67 bytes
+long : (c : tie.Else1) → length (c .before .before .args .line .now) ≡ 67
+long c = omega arith
+
 within : (c : tie.Else1) (n : ℕ) → n ≤ 67 → n ≤ length (c .before .before .args .line .now)
-within c n h = rw (c .if1 .left) h
+within c n h = rw (long c) h
 
 returns : tie.Need-returns
 unfolding isGood
-returns c = rw (ne-eqb _ _ (c .if1 .taken))
+returns c = rw (ne-eqb _ 67 (c .if1 .taken))
 
 returns-2 : tie.Need-returns-2
 unfolding isGood
 returns-2 c =
     let p1 = c .before .before .before in
-    rw (eq-eqb _ _ (p1 .if1 .left), sym (c .before .is-letter .ensures) ∙ not-true _ (c .if2 .taken))
+    rw (eq-eqb _ _ (long p1), sym (c .before .is-letter .ensures) ∙ not-true _ (c .if2 .taken))
 
 returns-3 : tie.Need-returns-3
 unfolding isGood
 returns-3 c =
     let p2 = c .before .before in
     let p1 = p2 .before .before .before in
-    rw (eq-eqb _ _ (p1 .if1 .left), sym (p2 .before .is-letter .ensures) ∙ not-false _ (p2 .if2 .left), ne-eqb _ _ (c .if3 .taken))
+    rw (eq-eqb _ _ (long p1), sym (p2 .before .is-letter .ensures) ∙ not-false _ (p2 .if2 .left), ne-eqb _ _ (c .if3 .taken))
 
 returns-4 : tie.Need-returns-4
 unfolding isGood
@@ -34,7 +39,7 @@ returns-4 c =
     let p3 = c .before .before in
     let p2 = p3 .before .before in
     let p1 = p2 .before .before .before in
-    rw (eq-eqb _ _ (p1 .if1 .left), sym (p2 .before .is-letter .ensures) ∙ not-false _ (p2 .if2 .left), eq-eqb _ _ (p3 .if3 .left), ne-eqb _ _ (c .if4 .taken))
+    rw (eq-eqb _ _ (long p1), sym (p2 .before .is-letter .ensures) ∙ not-false _ (p2 .if2 .left), eq-eqb _ _ (p3 .if3 .left), ne-eqb _ _ (c .if4 .taken))
 
 returns-5 : tie.Need-returns-5
 unfolding isGood
@@ -43,7 +48,7 @@ returns-5 c =
     let p3 = p4 .before .before in
     let p2 = p3 .before .before in
     let p1 = p2 .before .before .before in
-    rw (eq-eqb _ _ (p1 .if1 .left), sym (p2 .before .is-letter .ensures) ∙ not-false _ (p2 .if2 .left), eq-eqb _ _ (p3 .if3 .left), eq-eqb _ _ (p4 .if4 .left), sym (c .before .all-hex .ensures) ∙ not-true _ (c .if5 .taken))
+    rw (eq-eqb _ _ (long p1), sym (p2 .before .is-letter .ensures) ∙ not-false _ (p2 .if2 .left), eq-eqb _ _ (p3 .if3 .left), eq-eqb _ _ (p4 .if4 .left), sym (c .before .all-hex .ensures) ∙ not-true _ (c .if5 .taken))
 
 returns-6 : tie.Need-returns-6
 unfolding isGood
@@ -53,7 +58,7 @@ returns-6 c =
     let p3 = p4 .before .before in
     let p2 = p3 .before .before in
     let p1 = p2 .before .before .before in
-    rw (eq-eqb _ _ (p1 .if1 .left), sym (p2 .before .is-letter .ensures) ∙ not-false _ (p2 .if2 .left), eq-eqb _ _ (p3 .if3 .left), eq-eqb _ _ (p4 .if4 .left), sym (p5 .before .all-hex .ensures) ∙ not-false _ (p5 .if5 .left)) (c .all-hex2 .ensures)
+    rw (eq-eqb _ _ (long p1), sym (p2 .before .is-letter .ensures) ∙ not-false _ (p2 .if2 .left), eq-eqb _ _ (p3 .if3 .left), eq-eqb _ _ (p4 .if4 .left), sym (p5 .before .all-hex .ensures) ∙ not-false _ (p5 .if5 .left)) (c .all-hex2 .ensures)
 
 pub is-good-spec : {M : Type 1} → statement M
 is-good-spec =

@@ -7,8 +7,8 @@ use lib.ListN.{length, take}
 use lib.Seq.{take-all}
 use Rattle.lines.specs.Hex.{hexOf}
 use Rattle.lines.specs.Written.{written}
-use Rattle.lines.proofs.Numerals.{hexOf-append}
 use Rattle.lines.proofs.Texts.{grows}
+use Rattle.lines.proofs.Numerals.{hexOf-append}
 use Rattle.lines.proofs.push_hex.Statement.{statement}
 use Rattle.lines.proofs.push_hex.Tie as tie
 

@@ -3,8 +3,8 @@ use mathlib.Core.Path.{sym, ap, _∙_}
 use mathlib.Core.List.{List, []}
 use Prim.Native.Nat.{ℕ}
 use borrow.Author.Needs.{needs}
-use Rattle.primitives.specs.Packed.{stateOf}
 use Rattle.primitives.specs.declared.State.{State}
+use Rattle.primitives.specs.Packed.{stateOf}
 use Rattle.packing.proofs.Inverse.{packed-block}
 use Rattle.lines.specs.Hex.{hexOf}
 use Rattle.lines.specs.Line.{wordsText, packedText}

@@ -2,9 +2,9 @@
 use mathlib.Core.Path.{ap₂, _∙_}
 use mathlib.Core.List.{List}
 use Prim.Native.Nat.{ℕ}
-use borrow.Author.Needs.{needs}
 use lib.Dec.{lit≤}
 use lib.ListN.{getD}
+use borrow.Author.Needs.{needs}
 use Rattle.lines.specs.Line.{response}
 use Rattle.lines.specs.Written.{written}
 use Rattle.lines.proofs.Good.{Good, good, reaches, length-part}

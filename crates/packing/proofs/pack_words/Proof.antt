@@ -1,9 +1,9 @@
 -- `packing::pack_words` brings each bit of the block to its place: the swaps, one after the other, and a test of the places at the end.
 use Rattle.bits.specs.Digit.{digit, bit}
 use Rattle.published.specs.Packing.{word}
-use Rattle.primitives.specs.Packed.{stateOf}
 use Rattle.primitives.specs.Words.{permuted}
-use Rattle.packing.specs.Halves.{halvesOf, halfPlace}
+use Rattle.primitives.specs.Packed.{stateOf}
+use Rattle.packing.specs.Inner.{halvesOf, halfPlace}
 use Rattle.packing.proofs.Places.{packedPlace, begins, single, double, ends}
 use Rattle.packing.proofs.pack_words.Statement.{statement}
 use Rattle.packing.proofs.pack_words.Tie as tie

@@ -3,12 +3,11 @@ use mathlib.Core.Path.{_≡_, sym, _∙_}
 use mathlib.Core.List.{List}
 use Prim.Native.Nat.{ℕ}
 use native.Mathlib.Omega.{arith}
-use borrow.Author.Needs.{needs}
 use lib.ListN.{length}
-use Rattle.published.specs.Bytes.{fromBytes}
-use Rattle.published.proofs.Reading.{Bytes}
-use Rattle.packing.specs.Halves.{halvesOf}
+use borrow.Author.Needs.{needs}
+use Rattle.published.specs.Bytes.{fromBytes, Bytes}
 use Rattle.packing.specs.Packing.{noWords}
+use Rattle.packing.specs.Inner.{halvesOf}
 use Rattle.packing.proofs.Halves.{reads}
 use Rattle.packing.proofs.Inverse.{packed-block, packed-other}
 use Rattle.packing.proofs.packing.Statement.{statement}
@@ -32,7 +31,6 @@ returns c =
     ∙ sym (packed-block bs len)
 
 returns-2 : tie.Need-returns-2
-unfolding noWords
 returns-2 c = sym (packed-other (c .before .before .args .input .now) (c .if1 .left))
 
 pub packing-spec : {M : Type 1} → statement M

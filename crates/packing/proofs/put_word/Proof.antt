@@ -1,10 +1,10 @@
 -- `packing::put_word` stores a word's four bytes.
 use native.Mathlib.Nat.{div-one}
 use native.Mathlib.Omega.{arith}
-use borrow.Author.Needs.{needs}
 use lib.ListN.{length-set}
+use borrow.Author.Needs.{needs}
 use Rattle.bits.specs.Digit.{digit}
-use Rattle.packing.specs.Halves.{wordPut}
+use Rattle.packing.specs.Inner.{wordPut}
 use Rattle.packing.proofs.put_word.Statement.{statement}
 use Rattle.packing.proofs.put_word.Tie as tie
 

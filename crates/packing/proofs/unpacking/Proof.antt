@@ -2,12 +2,12 @@
 use mathlib.Core.Path.{_≡_, sym, ap, _∙_}
 use mathlib.Core.List.{List}
 use Prim.Native.Nat.{ℕ}
-use borrow.Author.Needs.{needs}
 use lib.ListN.{length}
-use Rattle.primitives.specs.Packed.{blockOf}
+use borrow.Author.Needs.{needs}
 use Rattle.primitives.specs.declared.State.{State}
-use Rattle.primitives.proofs.Blocks.{Words, stateOf-blockOf}
-use Rattle.packing.specs.Halves.{wordPut}
+use Rattle.primitives.specs.Packed.{blockOf, Words}
+use Rattle.primitives.proofs.Blocks.{stateOf-blockOf}
+use Rattle.packing.specs.Inner.{wordPut}
 use Rattle.packing.proofs.Halves.{wordsPut, puts}
 use Rattle.packing.proofs.Inverse.{unpacked-block, unpacked-other}
 use Rattle.packing.proofs.unpacking.Statement.{statement}

@@ -2,8 +2,8 @@
 use mathlib.Core.Path.{sym, ap, _∙_}
 use Prim.Native.Nat.{ℕ, _-_, _%_}
 use native.Mathlib.Nat.{mod-lt}
-use borrow.Author.Needs.{needs}
 use lib.Dec.{lit<}
+use borrow.Author.Needs.{needs}
 use Rattle.bits.proofs.Computed.{at, agree}
 use Rattle.bits.proofs.Reflect.{W, var, or, shr, shl}
 use Rattle.primitives.specs.Words.{permuted, rorIn}

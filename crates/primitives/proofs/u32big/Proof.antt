@@ -6,8 +6,8 @@ use lib.ListN.{getD}
 use Rattle.bits.specs.Digit.{bit}
 use Rattle.bits.proofs.Bits.{ofBits-bit, ofBits-cong}
 use Rattle.bits.proofs.Reflect.{W, var, or, shl, atom, value, by-test}
-use Rattle.published.specs.Bytes.{fromBytes}
-use Rattle.published.proofs.Reading.{Bytes, no-bytes, more-bytes, fromBytes-lt, bit-fromBytes}
+use Rattle.published.specs.Bytes.{fromBytes, Bytes}
+use Rattle.published.proofs.Reading.{no-bytes, more-bytes, fromBytes-lt, bit-fromBytes}
 use Rattle.primitives.proofs.u32big.Statement.{statement}
 use Rattle.primitives.proofs.u32big.Tie as tie
 

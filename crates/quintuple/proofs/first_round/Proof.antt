@@ -3,17 +3,18 @@ use mathlib.Core.Path.{_≡_, refl, sym, ap, _∙_}
 use mathlib.Core.List.{List}
 use Prim.Native.Nat.{ℕ, _≤_}
 use native.Mathlib.Omega.{arith}
+use lib.Dec.{lit<}
+use lib.ListN.{length, getD}
 use borrow.Author.Needs.{needs}
 use borrow.Author.Tests.{le-leb, lt-leb}
 use denote.Ref.{now}
-use lib.Dec.{lit<}
-use lib.ListN.{length, getD}
 use Rattle.bits.proofs.Computed.{cond-true, cond-false}
 use Rattle.published.specs.Rounds.{rounds}
-use Rattle.primitives.specs.Packed.{blockOf, stateOf}
-use Rattle.primitives.specs.Arranged.{stands, pairsFrom}
+use Rattle.published.specs.Gift128.{rounds128}
 use Rattle.primitives.specs.declared.State.{State}
+use Rattle.primitives.specs.Packed.{blockOf, stateOf}
 use Rattle.primitives.proofs.Blocks.{same-words, stateOf-blockOf}
+use Rattle.round_words.specs.Arranged.{stands, pairsFrom}
 use Rattle.quintuple.specs.Quintuple.{firstRound}
 use Rattle.quintuple.proofs.Fixslice.{blockIn-none}
 use Rattle.quintuple.proofs.Five.{carried, go-on, first-two, in-place}
@@ -45,7 +46,7 @@ returns-2 c =
     (carried 0 0 0 _ (lit< tt) refl refl (k .round-constant .ensures)) (blockIn-none (a .state)) (c4 .before .round-0 .ensures) (c4 .exchanged .ensures) in
     sym
     (cond-true _ _ _ (le-leb 2 (length ws) few)
-    ∙ ap (λ (l : List ℕ). stateOf (rounds 128 1 (pairsFrom 0 l) 0 (blockOf (a .state)))) (first-two ws few)
+    ∙ ap (λ (l : List ℕ). stateOf (rounds128 (pairsFrom 0 l) 0 (blockOf (a .state)))) (first-two ws few)
     ∙ ap stateOf (sym (ap blockOf placed ∙ in-place 1 x ∙ b))
     ∙ stateOf-blockOf r (omega (arith, c3 .unarranged .ok, c2 .unarranged2 .ok, c1 .unarranged3 .ok, c .unarranged4 .ok)))
 

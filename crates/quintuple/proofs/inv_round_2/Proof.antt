@@ -1,12 +1,12 @@
 -- `quintuple::inv_round_2`: its rotations and swaps are the moves of the round, undone.
-use borrow.Author.Needs.{needs}
 use lib.Bits.{bitXor}
-use Rattle.published.specs.Rounds.{P}
-use Rattle.primitives.specs.Arranged.{N, nibbleAt}
+use borrow.Author.Needs.{needs}
 use Rattle.bits.specs.Digit.{bit, digit}
-use Rattle.primitives.specs.Words.{rorIn}
+use Rattle.published.specs.Rounds.{P}
 use Rattle.primitives.specs.declared.State.{State}
+use Rattle.primitives.specs.Words.{rorIn}
 use Rattle.primitives.proofs.Swaps.{exchange}
+use Rattle.round_words.specs.Arranged.{N, nibbleAt}
 use Rattle.quintuple.specs.Inner.{unmove}
 use Rattle.quintuple.proofs.Shapes.{is-unsubround, one-after, swapped}
 use Rattle.quintuple.proofs.inv_round_2.Statement.{statement}

@@ -1,8 +1,8 @@
 -- `quintuple::inv_round_4`: its three rotations are the moves of the round, undone.
 use borrow.Author.Needs.{needs}
 use Rattle.published.specs.Rounds.{P}
-use Rattle.primitives.specs.Arranged.{N, nibbleAt}
 use Rattle.primitives.specs.Words.{rorIn}
+use Rattle.round_words.specs.Arranged.{N, nibbleAt}
 use Rattle.quintuple.specs.Inner.{unmove}
 use Rattle.quintuple.proofs.Shapes.{is-unsubround}
 use Rattle.quintuple.proofs.inv_round_4.Statement.{statement}

@@ -1,8 +1,8 @@
 -- `quintuple::round_0`: its three rotations are the moves of the round.
 use borrow.Author.Needs.{needs}
 use Rattle.published.specs.Rounds.{P}
-use Rattle.primitives.specs.Arranged.{N, nibbleAt}
 use Rattle.primitives.specs.Words.{rorIn}
+use Rattle.round_words.specs.Arranged.{N, nibbleAt}
 use Rattle.quintuple.specs.Inner.{move}
 use Rattle.quintuple.proofs.Shapes.{is-subround}
 use Rattle.quintuple.proofs.round_0.Statement.{statement}

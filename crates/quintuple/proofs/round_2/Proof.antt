@@ -1,11 +1,11 @@
 -- `quintuple::round_2`: its rotations and swaps are the moves of the round.
 use borrow.Author.Needs.{needs}
-use Rattle.published.specs.Rounds.{P}
-use Rattle.primitives.specs.Arranged.{N, nibbleAt}
 use Rattle.bits.specs.Digit.{bit, digit}
-use Rattle.primitives.specs.Words.{rorIn}
+use Rattle.published.specs.Rounds.{P}
 use Rattle.primitives.specs.declared.State.{State}
+use Rattle.primitives.specs.Words.{rorIn}
 use Rattle.primitives.proofs.Swaps.{exchange}
+use Rattle.round_words.specs.Arranged.{N, nibbleAt}
 use Rattle.quintuple.specs.Inner.{move}
 use Rattle.quintuple.proofs.Shapes.{is-subround, one-after, swapped}
 use Rattle.quintuple.proofs.round_2.Statement.{statement}

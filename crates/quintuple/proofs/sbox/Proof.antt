@@ -1,10 +1,11 @@
 -- `quintuple::sbox` is the table, by a test at the sixteen nibbles for each of its four words.
+use borrow.Author.Needs.{needs}
 use Rattle.bits.specs.Digit.{bit, digit, ofBits, number}
 use Rattle.bits.proofs.Reflect.{W, var, lit, and, or, xor}
 use Rattle.published.specs.Rounds.{entry}
-use borrow.Author.Needs.{needs}
 use Rattle.primitives.specs.declared.State.{State}
-use Rattle.primitives.proofs.Blocks.{Words, same-words}
+use Rattle.primitives.specs.Packed.{Words}
+use Rattle.primitives.proofs.Blocks.{same-words}
 use Rattle.quintuple.specs.Boxes.{boxed}
 use Rattle.quintuple.proofs.Columns.{through-table}
 use Rattle.quintuple.proofs.sbox.Statement.{statement}

@@ -1,6 +1,6 @@
 -- `quintuple::starts` makes the tests of `good`, one by one.
-use denote.Ref.{now}
 use mathlib.Core.Path.{sym}
+use denote.Ref.{now}
 use Rattle.quintuple.proofs.Five.{too-few, too-far, enough}
 use Rattle.quintuple.proofs.starts.Statement.{statement}
 use Rattle.quintuple.proofs.starts.Tie as tie

@@ -4,8 +4,8 @@ use Prim.Native.Nat.{ℕ}
 use borrow.Author.Needs.{needs}
 use Rattle.bits.specs.Digit.{bit, digit}
 use Rattle.published.specs.Rounds.{P}
-use Rattle.primitives.specs.Arranged.{N, nibbleAt, stands}
 use Rattle.primitives.proofs.Swaps.{exchange}
+use Rattle.round_words.specs.Arranged.{N, nibbleAt, stands}
 use Rattle.quintuple.proofs.Shapes.{same-move, swapped, one-after}
 use Rattle.quintuple.proofs.unarranged.Statement.{statement}
 use Rattle.quintuple.proofs.unarranged.Tie as tie

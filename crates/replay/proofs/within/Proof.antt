@@ -1,8 +1,8 @@
 -- `within` counts bytes of s.
-use Rattle.io.proofs.Counting.{counts}
 use native.Mathlib.Omega.{arith}
 use Rattle.replay.proofs.within.Statement.{statement}
 use Rattle.replay.proofs.within.Tie as tie
+use Rattle.io.proofs.Counting.{counts}
 
 pub within-spec : {M : Type 1} → statement M
 within-spec =

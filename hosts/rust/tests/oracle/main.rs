@@ -39,7 +39,7 @@ fn by_key(direction: Direction, key: &[u8; 16], block: &[u8; 16]) -> [u8; 16] {
 }
 
 /// A block after so many turns of a lane, each a quintuple round.
-fn after_turns(direction: Direction, key: &[u8; 16], block: &[u8; 16], turns: u8) -> State {
+fn after_turns(direction: Direction, key: &[u8; 16], block: &[u8; 16], turns: u16) -> State {
     let words = round_words(key);
     let mut s = [0; 4];
     primitives::packing(&mut s, block);

@@ -1,9 +1,9 @@
 -- `copied`: the array keeps its length.
-use borrow.Author.Needs.{needs}
 use mathlib.Core.Path.{_≡_}
 use Prim.Native.Nat.{_-_}
 use native.Mathlib.Omega.{arith}
 use lib.ListN.{length, length-set}
+use borrow.Author.Needs.{needs}
 use Rattle.bench_replay.proofs.calls.copied.Statement.{statement}
 use Rattle.bench_replay.proofs.calls.copied.Tie as tie
 

@@ -1,8 +1,8 @@
 -- `gift128::Gift128::encrypt_block`: the block by the words that it keeps, which are eighty.
-use borrow.Author.Needs.{needs}
-use denote.Ref.{now}
 use mathlib.Core.Path.{_≡_}
 use lib.ListN.{length}
+use borrow.Author.Needs.{needs}
+use denote.Ref.{now}
 use Rattle.gift128.proofs.Answers.{by-its-own}
 use Rattle.gift128.proofs.Gift128.encrypt_block.Statement.{statement}
 use Rattle.gift128.proofs.Gift128.encrypt_block.Tie as tie

@@ -1,17 +1,13 @@
 -- `gift128::Gift128::new`: the number and the words of expansion into eighty zeros.
 use borrow.Author.Needs.{needs}
-use denote.Ref.{now}
 use Rattle.key_schedule.specs.Expand.{expandCode}
 use Rattle.gift128.specs.Calls.{newCode}
-use Rattle.gift128.proofs.Blocks.{new-words}
-use mathlib.Core.Path.{_∙_}
 use Rattle.gift128.proofs.Gift128.new.Statement.{statement}
 use Rattle.gift128.proofs.Gift128.new.Tie as tie
 
 returns : tie.Need-returns
 unfolding expandCode newCode
-returns c =
-    (c .before .precompute-rkeys .ensures .is, c .before .precompute-rkeys .ensures .leaves ∙ new-words (now (c .before .before .before .before .args .key)))
+returns c = record { is = c .before .precompute-rkeys .ensures .is; leaves = c .before .precompute-rkeys .ensures .leaves }
 
 pub new-spec : {M : Type 1} → statement M
 new-spec = tie.close (tie.spec (λ c. search needs) (λ c κs. search needs) returns)

@@ -6,7 +6,7 @@ use Rattle.bits.specs.Digit.{digit, number, bit, ofBits}
 use Rattle.bits.proofs.Computed.{cond-true, cond-false}
 use Rattle.published.specs.Rounds.{P, step, constant}
 use Rattle.primitives.specs.Words.{permuted}
-use Rattle.primitives.specs.Arranged.{N, nibbleAt, arranged, constantWord}
+use Rattle.round_words.specs.Arranged.{N, nibbleAt, arranged, constantWord}
 use Rattle.quintuple.proofs.Table.{at-round}
 use Rattle.quintuple.proofs.consts.round_constant.Statement.{statement}
 use Rattle.quintuple.proofs.consts.round_constant.Tie as tie

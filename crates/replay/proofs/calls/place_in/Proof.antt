@@ -1,7 +1,7 @@
 -- `place_in` ends, and counts no more names than bytes.
-use borrow.Author.Needs.{needs}
 use Prim.Native.Nat.{_≤_, _+_, _-_}
 use lib.ListN.{length}
+use borrow.Author.Needs.{needs}
 use Rattle.replay.proofs.calls.place_in.Statement.{statement}
 use Rattle.replay.proofs.calls.place_in.Tie as tie
 

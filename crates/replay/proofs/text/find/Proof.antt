@@ -1,7 +1,7 @@
 -- `find` is safe and ends: the place only rises.
-use borrow.Author.Needs.{needs}
 use Prim.Native.Nat.{_≤_, _-_}
 use lib.ListN.{length}
+use borrow.Author.Needs.{needs}
 use Rattle.replay.proofs.text.find.Statement.{statement}
 use Rattle.replay.proofs.text.find.Tie as tie
 

@@ -1,7 +1,7 @@
 -- `number_of`: what it has read fits.
-use borrow.Author.Needs.{needs}
 use Prim.Native.Nat.{_<_, _-_, _^_}
 use lib.ListN.{length}
+use borrow.Author.Needs.{needs}
 use Rattle.replay.proofs.text.number_of.Statement.{statement}
 use Rattle.replay.proofs.text.number_of.Tie as tie
 

@@ -1,8 +1,8 @@
 -- `put_bytes`: out keeps its length.
-use borrow.Author.Needs.{needs}
 use mathlib.Core.Path.{_≡_}
 use Prim.Native.Nat.{_-_}
 use lib.ListN.{length}
+use borrow.Author.Needs.{needs}
 use Rattle.replay.proofs.text.put_bytes.Statement.{statement}
 use Rattle.replay.proofs.text.put_bytes.Tie as tie
 

@@ -1,7 +1,7 @@
 -- `start_of`: a start is no further than the end, and each turn leaves one field fewer.
-use borrow.Author.Needs.{needs}
 use Prim.Native.Nat.{_≤_}
 use lib.ListN.{length}
+use borrow.Author.Needs.{needs}
 use Rattle.replay.proofs.text.start_of.Statement.{statement}
 use Rattle.replay.proofs.text.start_of.Tie as tie
 

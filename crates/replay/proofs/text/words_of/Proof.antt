@@ -1,12 +1,12 @@
 -- `words_of` fills out from its start.
-use borrow.Author.Needs.{needs}
 use mathlib.Core.Path.{_≡_}
 use Prim.Native.Nat.{_≤_, _-_}
 use native.Mathlib.Omega.{arith}
 use lib.ListN.{length, length-set}
-use Rattle.io.proofs.Counting.{counts}
+use borrow.Author.Needs.{needs}
 use Rattle.replay.proofs.text.words_of.Statement.{statement}
 use Rattle.replay.proofs.text.words_of.Tie as tie
+use Rattle.io.proofs.Counting.{counts}
 
 abbrev Inv-loop : tie.InvT-loop
 Inv-loop hex out₀ n₀ out n = (n ≤ length out) × (length out ≡ length out₀)

@@ -1,0 +1,3 @@
+-- The laws, for the crates above.
+pub mod Passed
+pub mod Outcome

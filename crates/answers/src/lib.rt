@@ -1,0 +1,32 @@
+// The numbers that calls give back, by name: 0 is done, every other is a refusal. specs/Numbers.antt has the same names for contracts.
+pub const DONE: u32 = 0;
+
+// The key is not of 16 bytes.
+pub const BAD_KEY_LENGTH: u32 = 1;
+
+// A block or take buffer is not of 16 bytes; many blocks: the input is not a multiple of 16.
+pub const BAD_BLOCK_LENGTH: u32 = 2;
+
+// The output is not as long as the input.
+pub const BAD_OUTPUT_LENGTH: u32 = 3;
+
+// The round words are not 80.
+pub const BAD_WORD_COUNT: u32 = 4;
+
+// The lane's number is that of no lane.
+pub const BAD_LANE: u32 = 5;
+
+// Opening a lane that is not idle.
+pub const LANE_NOT_IDLE: u32 = 6;
+
+// Taking from a lane that is not finished.
+pub const LANE_NOT_FINISHED: u32 = 7;
+
+// More than 1,024 turns asked.
+pub const TOO_MANY_TURNS: u32 = 8;
+
+// The direction is neither 0 nor 1.
+pub const BAD_DIRECTION: u32 = 9;
+
+// Another number of records than there are lanes, no such lane last served, or a record that is not sound.
+pub const BAD_BENCH: u32 = 10;

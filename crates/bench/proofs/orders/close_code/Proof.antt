@@ -1,0 +1,21 @@
+-- `bench::orders::close_code` tries 10, 5.
+use borrow.Author.Tests.{not-true, not-false, lt-ltb, le-ltb}
+use Rattle.bench.specs.Turning.{laneCount}
+use Rattle.bench.specs.Orders.{closeCode}
+use Rattle.bench.proofs.orders.close_code.Statement.{statement}
+use Rattle.bench.proofs.orders.close_code.Tie as tie
+
+returns : tie.Need-returns
+unfolding closeCode
+returns c = rw (not-true (c .before .args .sound) (c .if1 .taken))
+
+returns-2 : tie.Need-returns-2
+unfolding closeCode laneCount
+returns-2 c = rw (not-false (c .before .before .args .sound) (c .before .if1 .left), le-ltb _ laneCount (c .if2 .taken))
+
+returns-3 : tie.Need-returns-3
+unfolding closeCode laneCount
+returns-3 c = rw (not-false (c .before .before .args .sound) (c .before .if1 .left), lt-ltb _ laneCount (c .if2 .left))
+
+pub close-code-spec : {M : Type 1} → statement M
+close-code-spec = tie.close (tie.spec returns returns-2 returns-3)

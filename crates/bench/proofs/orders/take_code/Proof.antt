@@ -1,0 +1,33 @@
+-- `bench::orders::take_code` tries 10, 5, 7, 2.
+use borrow.Author.Tests.{not-true, not-false, lt-ltb, le-ltb, ne-eqb}
+use Rattle.bench.specs.Turning.{laneCount}
+use Rattle.bench.specs.Orders.{takeCode}
+use Rattle.bench.proofs.orders.take_code.Statement.{statement}
+use Rattle.bench.proofs.orders.take_code.Tie as tie
+
+returns : tie.Need-returns
+unfolding takeCode
+returns c = rw (not-true (c .before .args .sound) (c .if1 .taken))
+
+returns-2 : tie.Need-returns-2
+unfolding takeCode laneCount
+returns-2 c = rw (not-false (c .before .before .args .sound) (c .before .if1 .left), le-ltb _ laneCount (c .if2 .taken))
+
+returns-3 : tie.Need-returns-3
+unfolding takeCode laneCount
+returns-3 c = rw (not-false (c .before .before .before .args .sound) (c .before .before .if1 .left), lt-ltb _ laneCount (c .before .if2 .left), ne-eqb _ 2 (c .if3 .taken))
+
+returns-4 : tie.Need-returns-4
+unfolding takeCode laneCount
+returns-4 c =
+    let at = c .before in
+    rw (not-false (c .before .before .before .before .args .sound) (at .before .before .if1 .left), lt-ltb _ laneCount (at .before .if2 .left), at .if3 .left, ne-eqb _ 16 (c .if4 .taken))
+
+returns-5 : tie.Need-returns-5
+unfolding takeCode laneCount
+returns-5 c =
+    let at = c .before in
+    rw (not-false (c .before .before .before .before .args .sound) (at .before .before .if1 .left), lt-ltb _ laneCount (at .before .if2 .left), at .if3 .left, c .if4 .left)
+
+pub take-code-spec : {M : Type 1} → statement M
+take-code-spec = tie.close (tie.spec returns returns-2 returns-3 returns-4 returns-5)

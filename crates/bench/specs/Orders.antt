@@ -1,0 +1,43 @@
+-- The number that each call gives, its refusals tried in document 01's order. A number depends on whether the bench is sound, on the arguments
+-- (of slices, on their lengths) and on the phase of the lane that is named.
+use mathlib.Core.Bool.{Bool}
+use Prim.Native.Nat.{ℕ}
+use lib.Dec.{eqb, leb, ltb}
+use Rattle.answers.specs.Numbers.{DONE, BAD_KEY_LENGTH, BAD_BLOCK_LENGTH, BAD_LANE, LANE_NOT_IDLE, LANE_NOT_FINISHED, TOO_MANY_TURNS, BAD_DIRECTION, BAD_BENCH}
+use Rattle.answers.specs.Order.{unless}
+use Rattle.lane.specs.Record.{idle, finished}
+use Rattle.bench.specs.Turning.{laneCount}
+
+-- Opening: 10, 5, 6, 9, 1, 2.
+unfoldable pub openCode : Bool → (lane phase direction key block : ℕ) → ℕ
+openCode sound lane phase direction key block =
+    unless sound BAD_BENCH
+    (unless (ltb lane laneCount) BAD_LANE
+    (unless (eqb phase idle) LANE_NOT_IDLE
+    (unless (leb direction 1) BAD_DIRECTION
+    (unless (eqb key 16) BAD_KEY_LENGTH
+    (unless (eqb block 16) BAD_BLOCK_LENGTH
+    DONE)))))
+
+-- Turns: 10, 8.
+unfoldable pub turnCode : Bool → (asked : ℕ) → ℕ
+turnCode sound asked =
+    unless sound BAD_BENCH
+    (unless (leb asked 1024) TOO_MANY_TURNS
+    DONE)
+
+-- Taking: 10, 5, 7, 2.
+unfoldable pub takeCode : Bool → (lane phase out : ℕ) → ℕ
+takeCode sound lane phase out =
+    unless sound BAD_BENCH
+    (unless (ltb lane laneCount) BAD_LANE
+    (unless (eqb phase finished) LANE_NOT_FINISHED
+    (unless (eqb out 16) BAD_BLOCK_LENGTH
+    DONE)))
+
+-- Closing: 10, 5.
+unfoldable pub closeCode : Bool → (lane : ℕ) → ℕ
+closeCode sound lane =
+    unless sound BAD_BENCH
+    (unless (ltb lane laneCount) BAD_LANE
+    DONE)

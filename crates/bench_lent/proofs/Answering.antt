@@ -1,0 +1,89 @@
+-- What the calls answer, from what their parts told: a refusal leaves the records, and what is done changes the one that is named.
+use mathlib.Core.Path.{_≡_, refl, sym, ap, subst, _∙_}
+use mathlib.Core.Bool.{Bool, true, false}
+use mathlib.Core.List.{List}
+use mathlib.Core.Logic.{_≢_}
+use Prim.Native.Nat.{ℕ, _≤_, _<_}
+use lib.ListN.{length, set}
+use Rattle.lane.specs.declared.Lane.{Lane}
+use Rattle.lane.specs.Record.{opened, yielded, idled}
+use Rattle.bench.specs.declared.Bench.{Bench}
+use Rattle.bench.specs.declared.Answer.{Answer}
+use Rattle.bench.specs.Turning.{laneCount, laneAt}
+use Rattle.bench.specs.Orders.{openCode, takeCode, closeCode}
+use Rattle.bench.specs.Calls.{put}
+use Rattle.bench.proofs.Passing.{open-passed, take-passed, close-passed}
+use Rattle.bench.proofs.Soundness.{is-sound}
+use Rattle.bench.proofs.Answered.{answer, open-refused, open-done, take-refused, take-done, close-refused, close-done}
+use Rattle.bench_lent.specs.declared.Seen.{Seen}
+use Rattle.bench_lent.specs.Lent.{benchOf, Leaves, Opens, Takes, Closes}
+use Rattle.bench_lent.specs.Inner.{Sees, renewed}
+use Rattle.bench_lent.proofs.Effects.{idled-renewed}
+
+-- of records that are not sound a number does not depend on the phase
+open-phase : (s : Bool) (lane p p′ direction key block : ℕ) → (s ≡ true → p ≡ p′) → openCode s lane p direction key block ≡ openCode s lane p′ direction key block
+unfolding openCode
+open-phase true lane p p′ direction key block e = ap (λ (q : ℕ). openCode true lane q direction key block) (e refl)
+open-phase false lane p p′ direction key block e = refl
+
+take-phase : (s : Bool) (lane p p′ out : ℕ) → (s ≡ true → p ≡ p′) → takeCode s lane p out ≡ takeCode s lane p′ out
+unfolding takeCode
+take-phase true lane p p′ out e = ap (λ (q : ℕ). takeCode true lane q out) (e refl)
+take-phase false lane p p′ out e = refl
+
+leaves : {c : ℕ} {d : Bench} {a : Answer} → answer c 0 d ≡ a → Leaves a c (d .lanes)
+leaves e = (ap (λ (a : Answer). a .code) e, ap (λ (a : Answer). a .bench .lanes) e)
+
+module _ (ys : List Lane) (last lane : ℕ) (r : Seen) (sees : Sees ys last lane r) (c : ℕ) where
+  abbrev b : Bench
+  b = benchOf ys last
+
+  inside : r .sound ≡ true → lane < laneCount → lane < length ys
+  inside ok h = subst (λ (k : ℕ). lane < k) (sym (is-sound b (sym (sees .0) ∙ ok) .size)) h
+
+  -- the lane idle, as it was stored
+  idle-now : {l m : Lane} {zs : List Lane} → l ≡ laneAt ys lane → m ≡ idled l → zs ≡ set ys lane (renewed (laneAt ys lane) m) → benchOf zs last ≡ put b lane (idled (laneAt ys lane))
+  unfolding put
+  idle-now e f g =
+      ap (λ (zs : List Lane). benchOf zs last) (g ∙ ap (λ (k : Lane). set ys lane (renewed (laneAt ys lane) k)) (f ∙ ap idled e) ∙ ap (set ys lane) (idled-renewed (laneAt ys lane)))
+
+  module _ (told : c ≡ closeCode (r .sound) lane) where
+    pub close-in : c ≡ 0 → lane < length ys
+    close-in z = let p = close-passed (r .sound) lane (sym told ∙ z) in inside (p .is-sound) (p .lane-lt)
+
+    pub close-no : c ≢ 0 → Closes ys last lane c ys
+    close-no ne = leaves (close-refused b (sees .0) lane told ne)
+
+    pub close-yes : c ≡ 0 → {l m : Lane} {zs : List Lane} → l ≡ laneAt ys lane → m ≡ idled l → zs ≡ set ys lane (renewed (laneAt ys lane) m) → Closes ys last lane c zs
+    close-yes z e f g = leaves (close-done b (sees .0) lane told z (idle-now e f g))
+
+  module _ (out : List ℕ) (told : c ≡ takeCode (r .sound) lane (r .phase) (length out)) where
+    take-told : c ≡ takeCode (r .sound) lane (laneAt ys lane .phase) (length out)
+    take-told = told ∙ take-phase (r .sound) lane (r .phase) (laneAt ys lane .phase) (length out) (sees .1)
+
+    pub take-in : c ≡ 0 → lane < length ys
+    take-in z = let p = take-passed (r .sound) lane (r .phase) (length out) (sym told ∙ z) in inside (p .is-sound) (p .lane-lt)
+
+    pub take-no : c ≢ 0 → Takes ys last lane out c ys out
+    take-no ne = let p = take-refused b (sees .0) lane out refl take-told ne in (leaves (p .0), p .1)
+
+    pub take-yes : c ≡ 0 → {l m : Lane} {zs : List Lane} {bytes : List ℕ} → l ≡ laneAt ys lane → bytes ≡ yielded l out → m ≡ idled l → zs ≡ set ys lane (renewed (laneAt ys lane) m) → Takes ys last lane out c zs bytes
+    take-yes z e y f g = let p = take-done b (sees .0) lane out refl take-told z (idle-now e f g) (y ∙ ap (λ (k : Lane). yielded k out) e) in (leaves (p .0), p .1)
+
+  module _ (direction : ℕ) (key block : List ℕ) (told : c ≡ openCode (r .sound) lane (r .phase) direction (length key) (length block)) where
+    open-told : c ≡ openCode (r .sound) lane (laneAt ys lane .phase) direction (length key) (length block)
+    open-told = told ∙ open-phase (r .sound) lane (r .phase) (laneAt ys lane .phase) direction (length key) (length block) (sees .1)
+
+    pub open-in : c ≡ 0 → lane < length ys
+    open-in z = let p = open-passed (r .sound) lane (r .phase) direction (length key) (length block) (sym told ∙ z) in inside (p .is-sound) (p .lane-lt)
+
+    -- the direction fits a byte
+    pub open-way : c ≡ 0 → direction ≤ 1
+    open-way z = open-passed (r .sound) lane (r .phase) direction (length key) (length block) (sym told ∙ z) .direction-le
+
+    pub open-no : c ≢ 0 → Opens ys last lane direction key block c ys
+    open-no ne = leaves (open-refused b (sees .0) lane direction key block refl open-told ne)
+
+    pub open-yes : c ≡ 0 → {l : Lane} {zs : List Lane} → l ≡ opened direction key block → zs ≡ set ys lane l → Opens ys last lane direction key block c zs
+    unfolding put
+    open-yes z e f = leaves (open-done b (sees .0) lane direction key block refl open-told z (ap (λ (zs : List Lane). benchOf zs last) (f ∙ ap (set ys lane) e)))

@@ -1,0 +1,2 @@
+-- What the library says of itself.
+pub mod Edition

@@ -1,0 +1,139 @@
+-- What the crates above use of a record: its counts by its phase, what a turn of its own does to it, and what it holds just opened and yields in the end.
+use mathlib.Core.Path.{_≡_, refl, sym, ap, _∙_}
+use mathlib.Core.Bool.{true, false, cond, false≢true}
+use mathlib.Core.List.{List}
+use Prim.Native.Nat.{ℕ, zero, suc, _+_, _-_, _≤_, _<_}
+use native.Mathlib.Decide.{decLe}
+use native.Mathlib.Omega.{arith}
+use lib.Dec.{eqb, leb, ltb}
+use lib.ListN.{length, replicate}
+use borrow.Author.Tests.{lt-ltb, le-ltb, le-leb, lt-leb, eq-eqb, eqb-true, eqb-false, leb-true}
+use Rattle.answers.specs.Order.{ifDone}
+use Rattle.bits.proofs.Computed.{cond-true}
+use Rattle.bits.proofs.Truth.{both, together, cond-either}
+use Rattle.published.specs.Bytes.{fromBytes, toBytes}
+use Rattle.primitives.specs.declared.State.{State}
+use Rattle.primitives.specs.Packed.{blockOf, stateOf}
+use Rattle.packing.specs.Packing.{unpacked}
+use Rattle.packing.proofs.Inverse.{packed-block}
+use Rattle.key_schedule.specs.Expand.{expanded}
+use Rattle.gift128.specs.Calls.{newCode}
+use Rattle.lane.specs.declared.Lane.{Lane}
+use Rattle.lane.specs.Record.{running, finished, idle, soundCount, soundLane, opened, advanced, served, lacks, yielded}
+
+-- a lane with a running record that is sound has turns left
+pub running-count : (l : Lane) → soundLane l ≡ true → l .phase ≡ running → l .count < 8
+unfolding soundLane soundCount
+running-count l s e =
+    let h : leb (l .count) 7 ≡ true = rw e at (both (leb (l .direction) 1) (soundCount (l .phase) (l .count)) s .1) in
+    omega (arith, leb-true (l .count) 7 h)
+
+pub finished-count : (l : Lane) → soundLane l ≡ true → l .phase ≡ finished → l .count ≡ 8
+unfolding soundLane soundCount
+finished-count l s e =
+    let h : eqb (l .count) 8 ≡ true = rw e at (both (leb (l .direction) 1) (soundCount (l .phase) (l .count)) s .1) in
+    eqb-true (l .count) 8 h
+
+pub sound-count : (l : Lane) → soundLane l ≡ true → l .count ≤ 8
+unfolding soundLane soundCount
+sound-count l s = go (l .phase) (both (leb (l .direction) 1) (soundCount (l .phase) (l .count)) s .1)
+  where
+    go : (p : ℕ) → soundCount p (l .count) ≡ true → l .count ≤ 8
+    go zero e = omega (arith, eqb-true (l .count) 0 e)
+    go (suc zero) e = omega (arith, leb-true (l .count) 7 e)
+    go (suc (suc zero)) e = omega (arith, eqb-true (l .count) 8 e)
+    go (suc (suc (suc p))) e = absurd (false≢true e)
+
+-- below 8 is at most 7, as tests
+pub below-leb : (c m : ℕ) → ltb c (m + 1) ≡ leb c m
+below-leb c m =
+    elim (decLe c m) [
+      | yes h ↦ lt-ltb c (m + 1) (omega arith) ∙ sym (le-leb c m h)
+      | no h ↦ le-ltb c (m + 1) (omega arith) ∙ sym (lt-leb c m (omega arith))
+    ]
+
+-- a fourth phase is none
+pub no-phase : (p c : ℕ) → (p ≡ idle → ⊥) → (p ≡ running → ⊥) → (p ≡ finished → ⊥) → soundCount p c ≡ false
+unfolding soundCount
+no-phase zero c n0 n1 n2 = absurd (n0 refl)
+no-phase (suc zero) c n0 n1 n2 = absurd (n1 refl)
+no-phase (suc (suc zero)) c n0 n1 n2 = absurd (n2 refl)
+no-phase (suc (suc (suc p))) c n0 n1 n2 = refl
+
+-- what a record becomes in a turn of its own
+abbrev pub next : Lane → Lane
+next l =
+    record {
+      phase = cond (eqb (l .count + 1) 8) finished running;
+      direction = l .direction;
+      count = l .count + 1;
+      words = l .words;
+      state = advanced l;
+    }
+
+-- the same by its parts: the last turn, and one before it
+pub served-by : (l : Lane) (phase : ℕ) (state : State) → l .count < 8 → phase ≡ cond (eqb (l .count + 1) 8) finished running → state ≡ advanced l
+    → record { phase = phase; direction = l .direction; count = l .count + 1; words = l .words; state = state } ≡ served l
+unfolding served
+served-by l phase state h p s = rw (p, s) (sym (cond-true (ltb (l .count) 8) (next l) l (lt-ltb (l .count) 8 h)))
+
+module _ (l : Lane) (sound : soundLane l ≡ true) (runs : l .phase ≡ running) where
+  pub served-next : served l ≡ next l
+  unfolding served
+  served-next = cond-true (ltb (l .count) 8) (next l) l (lt-ltb (l .count) 8 (running-count l sound runs))
+
+  pub served-count : served l .count ≡ l .count + 1
+  served-count = ap (λ (k : Lane). k .count) served-next
+
+  pub served-busy : served l .phase ≡ idle → ⊥
+  served-busy e =
+      cond-either (λ (p : ℕ). p ≡ idle → ⊥) (eqb (l .count + 1) 8) finished running (λ t. eqb-false 2 0 refl) (λ t. eqb-false 1 0 refl)
+      (sym (ap (λ (k : Lane). k .phase) served-next) ∙ e)
+
+  pub served-sound : soundLane (served l) ≡ true
+  unfolding soundLane soundCount
+  served-sound =
+      rw served-next
+      (together (leb (l .direction) 1) _ (both (leb (l .direction) 1) (soundCount (l .phase) (l .count)) sound .0)
+      (cond-either (λ (p : ℕ). soundCount p (l .count + 1) ≡ true) (eqb (l .count + 1) 8) finished running
+      (λ e. e)
+      (λ e. le-leb (l .count + 1) 7 (omega (arith, running-count l sound runs, eqb-false (l .count + 1) 8 e)))))
+
+  pub served-lacks : suc (lacks (served l)) ≡ lacks l
+  unfolding lacks
+  served-lacks =
+      let c : ℕ = l .count in
+      let left : c < 8 = running-count l sound runs in
+      rw (served-next, runs)
+      (cond-either (λ (p : ℕ). suc (cond (eqb p running) (8 - (c + 1)) 0) ≡ 8 - c) (eqb (c + 1) 8) finished running
+      (λ e. omega (arith, eqb-true (c + 1) 8 e))
+      (λ e. omega arith))
+
+-- a sound lane with eight turns is finished
+pub eight-finished : (l : Lane) → soundLane l ≡ true → l .count ≡ 8 → l .phase ≡ finished
+unfolding soundLane soundCount
+eight-finished l s e = go (l .phase) (both (leb (l .direction) 1) (soundCount (l .phase) (l .count)) s .1)
+  where
+    go : (p : ℕ) → soundCount p (l .count) ≡ true → p ≡ finished
+    go zero h = absurd (eqb-false 8 0 refl (sym e ∙ eqb-true (l .count) 0 h))
+    go (suc zero) h = absurd (omega (arith, e, leb-true (l .count) 7 h))
+    go (suc (suc zero)) h = refl
+    go (suc (suc (suc p))) h = absurd (false≢true h)
+
+-- by a key and a block of 16 bytes, a lane is opened on the key's words and the block's
+pub opened-on : (direction : ℕ) (key block : List ℕ) → length key ≡ 16 → length block ≡ 16
+    → opened direction key block ≡ record { phase = running; direction = direction; count = 0; words = expanded key; state = stateOf (fromBytes block) }
+unfolding opened newCode
+opened-on direction key block k b =
+    λ i. record {
+      phase = running;
+      direction = direction;
+      count = 0;
+      words = ap (λ (n : ℕ). ifDone (newCode n) (expanded key) (replicate 80 0)) k i;
+      state = packed-block block b i;
+    }
+
+-- what a lane yields into 16 bytes
+pub yielded-bytes : (l : Lane) (out : List ℕ) → length out ≡ 16 → yielded l out ≡ toBytes 16 (blockOf (l .state))
+unfolding yielded unpacked
+yielded-bytes l out e = cond-true (eqb (length out) 16) _ out (eq-eqb (length out) 16 e)

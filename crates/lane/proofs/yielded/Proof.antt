@@ -1,0 +1,12 @@
+-- `lane::yielded` writes the bytes of the lane's block.
+use borrow.Author.Needs.{needs}
+use Rattle.lane.specs.Record.{yielded}
+use Rattle.lane.proofs.yielded.Statement.{statement}
+use Rattle.lane.proofs.yielded.Tie as tie
+
+returns : tie.Need-returns
+unfolding yielded
+returns c = search needs
+
+pub yielded-spec : {M : Type 1} → statement M
+yielded-spec = tie.close (tie.spec (λ c κs. search needs) (λ c. search needs) returns)

@@ -1,0 +1,73 @@
+-- A lane's record: what makes it sound, and what an opening, a turn of its own, yielding and going idle make of it.
+use mathlib.Core.Bool.{Bool, false, cond, _&&_}
+use mathlib.Core.List.{List}
+use Prim.Native.Nat.{ℕ, zero, suc, _+_, _-_, _*_}
+use lib.Dec.{eqb, leb, ltb}
+use lib.ListN.{drop, replicate}
+use Rattle.primitives.specs.declared.State.{State}
+use Rattle.packing.specs.Packing.{noWords, packed, unpacked}
+use Rattle.quintuple.specs.Quintuple.{quintupled, unquintupled}
+use Rattle.gift128.specs.Calls.{newWords}
+use Rattle.lane.specs.declared.Lane.{Lane}
+
+abbrev pub idle : ℕ
+idle = 0
+
+abbrev pub running : ℕ
+running = 1
+
+abbrev pub finished : ℕ
+finished = 2
+
+-- idle with count 0, running with count 0 to 7, or finished with count 8
+unfoldable pub soundCount : ℕ → ℕ → Bool
+soundCount zero c = eqb c 0
+soundCount (suc zero) c = leb c 7
+soundCount (suc (suc zero)) c = eqb c 8
+soundCount (suc (suc (suc p))) c = false
+
+unfoldable pub soundLane : Lane → Bool
+soundLane l = leb (l .direction) 1 && soundCount (l .phase) (l .count)
+
+-- Opening: the key expanded, the block packed.
+unfoldable pub opened : ℕ → List ℕ → List ℕ → Lane
+opened direction key block =
+    record { phase = running; direction = direction; count = 0; words = newWords key; state = packed block }
+
+-- One quintuple round more: forward at offset 5·count, or back at offset 35 − 5·count, over the words that start at twice the offset.
+unfoldable pub advanced : Lane → State
+advanced l =
+    cond (eqb (l .direction) 0)
+    (quintupled (l .state) (drop (2 * (5 * l .count)) (l .words)) (5 * l .count))
+    (unquintupled (l .state) (drop (2 * (35 - 5 * l .count)) (l .words)) (35 - 5 * l .count))
+
+-- A turn of its own: the count rises by 1, and at 8 the lane is finished. (A count of 8 or more has no quintuple round left.)
+unfoldable pub served : Lane → Lane
+served l =
+    cond (ltb (l .count) 8)
+    (record {
+      phase = cond (eqb (l .count + 1) 8) finished running;
+      direction = l .direction;
+      count = l .count + 1;
+      words = l .words;
+      state = advanced l;
+    })
+    l
+
+-- the turns that a lane still lacks: 8 less its count if it runs
+unfoldable pub lacks : Lane → ℕ
+lacks l = cond (eqb (l .phase) running) (8 - l .count) 0
+
+-- Yielding: what a lent buffer holds afterwards, the bytes of the lane's block.
+unfoldable pub yielded : Lane → List ℕ → List ℕ
+yielded l out = unpacked (l .state) out
+
+-- Idle, with the round words ws; idle as after a take, when they stay until the next opening; and a fresh lane, all zero.
+unfoldable pub idleWith : List ℕ → Lane
+idleWith ws = record { phase = idle; direction = 0; count = 0; words = ws; state = noWords }
+
+abbrev pub idled : Lane → Lane
+idled l = idleWith (l .words)
+
+abbrev pub freshLane : Lane
+freshLane = idleWith (replicate 80 0)

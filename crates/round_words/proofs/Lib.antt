@@ -1,0 +1,3 @@
+-- The laws, for the crates above.
+pub mod Arrangements
+pub mod Pairs
