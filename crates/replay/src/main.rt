@@ -1,230 +1,160 @@
-// Replays cases: makes each call that a line names, and compares its answer with the one that stands in the line.
+// Replays cases: makes each call that a line names, and compares what it gives and leaves with what the line says.
 //
-// A line of standard input is a case, `CALL FIELDS = ANSWER` (calls.rt has the fields of each call), or it begins with `#`: with `##` it is a
-// heading, under which the cases after it are counted, and else a remark. The last line of the output says how many cases were equal and how
-// many different. The cases that the gate replays stand in the file stdin beside src/.
-mod calls;
+// Standard input is a file. A line of it is a case, `CALL PARTS` (text.rt has the parts, cipher.rt and benches.rt have the calls), or `## TEXT`,
+// a heading, under which the cases after it are counted, or `# TEXT`, a remark. The last line of the output says how many cases were equal and
+// how many different. The cases that the gate replays stand in the file stdin beside src/.
+mod benches;
+mod cipher;
 mod text;
 
-ghost use Prim.Native.Nat.{_≤_};
-ghost use lib.ListN.{length};
-ghost use Rattle.io.specs.Counts.{Counts};
-use calls::answer;
+use bench::Bench;
+use bytes::scan::find;
 use check::same;
 use libc::STDIN_FILENO;
 use libc::STDOUT_FILENO;
-use text::wanted;
+use std::num::wrapping_add_u64;
 
-// What was counted: the lines, the cases under a heading, and all cases.
-struct Tally {
-    lines: u64,
+// How long a line can be.
+const LINE: usize = 4096;
+
+// Where the next line begins, how many cases were equal and how many different, how many were equal before the last heading, and the bench.
+struct Run {
+    at: u64,
     equal: u64,
     different: u64,
-    all_equal: u64,
-    all_different: u64,
-    headed: bool,
-}
-
-// How far the reading has come: how many bytes are kept of a line that has begun, and whether there may be more.
-struct Progress {
-    kept: usize,
-    more: bool,
-    tally: Tally,
-}
-
-fn next(n: u64) -> u64 {
-    if n < u64::MAX { n + 1 } else { n }
-}
-
-// n, or all of s where n is more.
-fn within(n: usize, s: &[u8]) -> usize
-    ensures { λ r. ⌜ Counts r (now (s .entry)) ⌝ }
-{
-    if n < s.len() { n } else { s.len() }
+    before: u64,
+    bench: Bench,
 }
 
 fn say(text: &[u8]) {
     io::write_all(STDOUT_FILENO, text);
 }
 
-fn say_number(n: u64) {
+fn say_count(n: u64, text: &[u8]) {
     io::print_decimal(STDOUT_FILENO, n);
+    say(text);
 }
 
-// Ends a heading's line with its counts.
-fn closed(mut t: Tally) -> Tally {
-    if t.headed {
-        if 0 < t.different {
-            say(b"\n");
-        }
-        say_number(t.equal);
-        say(b" equal");
-        if 0 < t.different {
-            say(b", ");
-            say_number(t.different);
-            say(b" different");
-        }
-        say(b"\n");
+// Ends a heading's line with its count.
+fn closed(r: Run) {
+    if r.before < r.equal {
+        say_count(r.equal - r.before, b" equal\n");
     }
-    t.equal = 0;
-    t.different = 0;
-    t.headed = false;
-    t
 }
 
-fn headed(t: Tally, line: &[u8]) -> Tally {
-    let mut u = closed(t);
-    if 3 < line.len() {
-        say(&line[3..]);
-    }
+fn headed(r: Run, line: &[u8]) -> Run {
+    closed(r);
+    say(line);
     say(b": ");
-    u.headed = true;
-    u
+    let mut q = r;
+    q.before = r.equal;
+    q
 }
 
-fn agreed(mut t: Tally) -> Tally {
-    t.equal = next(t.equal);
-    t.all_equal = next(t.all_equal);
-    t.headed = true;
-    t
+fn counted(r: Run, right: bool, line: &[u8]) -> Run {
+    let mut q = r;
+    if right {
+        q.equal = wrapping_add_u64(r.equal, 1);
+        return q;
+    }
+    q.different = wrapping_add_u64(r.different, 1);
+    say(line);
+    say(b" differs\n");
+    q
 }
 
-fn differed(mut t: Tally, got: &[u8]) -> Tally {
-    say(b"\n  line ");
-    say_number(t.lines);
-    say(b" gives ");
-    say(got);
-    t.different = next(t.different);
-    t.all_different = next(t.all_different);
-    t.headed = true;
-    t
+// The place of a name among names that a space parts, from 1, and 0 where it is none of them.
+fn place_in(names: &[u8], name: &[u8]) -> usize {
+    let mut k = 0;
+    let mut at = 0;
+    while at < names.len() {
+        let e = find(names, at, names.len(), b' ');
+        k += 1;
+        if same(&names[at..e], name) {
+            return k;
+        }
+        at = e + 1;
+    }
+    0
 }
 
-// No answer at all is never the right one.
-fn agrees(line: &[u8], got: &[u8]) -> bool {
-    if got.len() == 0 {
-        return false;
-    }
-    same(wanted(line), got)
+fn call_of(line: &[u8]) -> usize {
+    let e = find(line, 0, line.len(), b' ');
+    place_in(
+        b"encrypt_by_key decrypt_by_key one_round encrypt_block decrypt_block encrypt_by_words decrypt_by_words \
+          encrypt_blocks decrypt_blocks unpacking precompute_rkeys new ror swapmovesingle u32big \
+          byte_ror_2 byte_ror_4 byte_ror_6 half_ror_4 half_ror_8 half_ror_12 nibble_ror_1 nibble_ror_2 nibble_ror_3 \
+          round_constant sbox inv_sbox swapmove packing quintuple_round inv_quintuple_round first_round \
+          open_lane turn take close fresh put # ##",
+        &line[0..e],
+    )
 }
 
-fn replayed(t: Tally, line: &[u8]) -> Tally {
-    let mut out = io::buffer();
-    let n = answer(line, &mut out);
-    let k = within(n, &out);
-    if agrees(line, &out[..k]) {
-        agreed(t)
-    } else {
-        differed(t, &out[..k])
-    }
+fn on_bench(r: Run, call: usize, line: &[u8]) -> Run {
+    let v = benches::tried(call, r.bench, line);
+    let bench = v.bench;
+    let mut q = r;
+    q.bench = bench;
+    counted(q, v.right, line)
 }
 
-fn judged(mut t: Tally, line: &[u8]) -> Tally {
-    t.lines = next(t.lines);
-    if line.len() == 0 {
-        return t;
+fn judged(r: Run, line: &[u8]) -> Run {
+    let call = call_of(line);
+    if call < 33 {
+        return counted(r, cipher::right(call, line), line);
     }
-    if line[0] != b'#' {
-        return replayed(t, line);
+    if call < 39 {
+        return on_bench(r, call, line);
     }
-    if line.len() == 1 {
-        return t;
+    if call == 40 {
+        return headed(r, line);
     }
-    if line[1] != b'#' {
-        return t;
-    }
-    headed(t, line)
+    r
 }
 
-// One byte more. A line that is longer than its buffer is cut, and then its answer is too.
-fn fed(mut p: Progress, b: u8, line: &mut [u8]) -> Progress
-    requires { ⌜ p .kept ≤ length (now line) ⌝ }
-    ensures { λ r. ⌜ r .kept ≤ length (now (line .entry)) ⌝ }
-{
-    let kept = p.kept;
-    if b == b'\n' {
-        let tally = judged(p.tally, &line[0..kept]);
-        return Progress {
-            kept: 0,
-            more: true,
-            tally,
-        };
-    }
-    if kept < line.len() {
-        line[kept] = b;
-        p.kept = kept + 1;
-        return p;
-    }
-    p
+// The first line of a text. One that is too long is cut in two, and neither is a case.
+fn first_judged(r: Run, text: &[u8]) -> Run {
+    let e = find(text, 0, text.len(), b'\n');
+    let mut q = r;
+    q.at = wrapping_add_u64(r.at, e as u64 + 1);
+    judged(q, &text[0..e])
 }
 
-fn fed_all(start: Progress, bytes: &[u8], line: &mut [u8]) -> Progress
-    requires { ⌜ start .kept ≤ length (now line) ⌝ }
-    ensures { λ r. ⌜ r .kept ≤ length (now (line .entry)) ⌝ }
-{
-    let mut p = start;
-    let mut i = 0;
-    while i < bytes.len() {
-        p = fed(p, bytes[i], line);
-        i += 1;
-    }
-    p
-}
-
-fn read_some(mut p: Progress, line: &mut [u8]) -> Progress
-    requires { ⌜ p .kept ≤ length (now line) ⌝ }
-    ensures { λ r. ⌜ r .kept ≤ length (now (line .entry)) ⌝ }
-{
-    let mut buf = io::large_buffer();
-    let n = io::read_full(STDIN_FILENO, &mut buf);
+// At the end of the input nothing is read, and the run stays as it is.
+fn step(r: Run) -> Run {
+    let mut text = [0u8; LINE];
+    let got = libc::pread(STDIN_FILENO, &mut text, (r.at % 9223372036854775808) as i64);
+    let n = io::count(got, &text);
     if n == 0 {
-        p.more = false;
-        return p;
+        return r;
     }
-    fed_all(p, &buf[..n], line)
+    first_judged(r, &text[..n])
 }
 
 // A proved loop has to end, and nothing says that the input does: it counts down from a number that no run uses up.
-fn read_all(line: &mut [u8], t: Tally) -> Progress {
-    let mut p = Progress {
-        kept: 0,
-        more: true,
-        tally: t,
-    };
+fn replayed(start: Run) -> Run {
+    let mut r = start;
     let mut turns = u64::MAX;
     while 0 < turns {
-        if !p.more {
-            return p;
+        let q = step(r);
+        if q.at == r.at {
+            return r;
         }
-        p = read_some(p, line);
+        r = q;
         turns -= 1;
     }
-    p
-}
-
-fn replay(t: Tally) -> Tally {
-    let mut line = io::buffer();
-    let p = read_all(&mut line, t);
-    let tally = p.tally;
-    if p.kept == 0 {
-        return closed(tally);
-    }
-    let n = within(p.kept, &line);
-    closed(judged(tally, &line[..n]))
+    r
 }
 
 fn main() {
-    let t = Tally {
-        lines: 0,
+    let r = replayed(Run {
+        at: 0,
         equal: 0,
         different: 0,
-        all_equal: 0,
-        all_different: 0,
-        headed: false,
-    };
-    let u = replay(t);
-    say_number(u.all_equal);
-    say(b" cases equal, ");
-    say_number(u.all_different);
-    say(b" different\n");
+        before: 0,
+        bench: bench::fresh(),
+    });
+    closed(r);
+    say_count(r.equal, b" cases equal, ");
+    say_count(r.different, b" different\n");
 }

@@ -1,231 +1,151 @@
-// The text of a case: fields between spaces, bytes and words as hex digits, numbers in decimal. It is read and written here.
-ghost use Prim.Native.Nat.{_+_, _≤_, _<_};
-ghost use lib.ListN.{length};
-ghost use Rattle.io.specs.Counts.{Counts};
+// The text of a case: the parts of a line.
+//
+// A part stands behind its mark: hex digits, two to a byte and eight to a word, with spaces between them where a reader wants some.
+//
+//      :   the numbers and states that the call is given
+//      <   what it is lent to be read, bytes or words
+//      ;   more of that
+//      >   what it is lent to be changed
+//      =   the numbers and states that it gives, its number first
+//      ?   what was lent to be changed, afterwards
+//
+// Digits before the first mark are letters of the call's name. A part that is not there is empty.
+use check::same;
+use primitives::State;
+use std::num::wrapping_add_usize;
 
-// The first place from `from` on where c stands; the line's end where it stands nowhere.
-pub(crate) fn find(line: &[u8], from: usize, c: u8) -> usize
-    requires { ⌜ from ≤ length (now line) ⌝ }
-    ensures { λ r. ⌜ (from ≤ r) × (r ≤ length (now (line .entry))) ⌝ }
-{
-    let mut i = from;
-    while i < line.len() {
-        if line[i] == c {
-            return i;
-        }
-        i += 1;
+// How long a part can be; its last word is kept free.
+pub(crate) const WORDS: usize = 128;
+
+pub(crate) const BYTES: usize = 4 * WORDS;
+
+const DIGITS: usize = 8 * WORDS;
+
+const MOST: usize = DIGITS - 8;
+
+// A place in no part.
+const NOWHERE: usize = 9223372036854775808;
+
+// A part, seen as bytes and seen as words: how many of each there are, one that is not whole among them, and zeros after them.
+pub(crate) struct Part {
+    pub(crate) n: usize,
+    pub(crate) m: usize,
+    pub(crate) bytes: [u8; BYTES],
+    pub(crate) words: [u32; WORDS],
+}
+
+// How far the reading of a part has come: its digits so far, whether more of them can follow, and the last eight.
+struct At {
+    digits: usize,
+    on: bool,
+    word: u32,
+}
+
+// One digit more, if this is the part that is read.
+fn more(p: At, c: u8) -> At {
+    if !p.on {
+        return p;
     }
-    i
-}
-
-// Where the field after this one starts.
-fn next_start(line: &[u8], from: usize) -> usize
-    requires { ⌜ from ≤ length (now line) ⌝ }
-    ensures { λ r. ⌜ r ≤ length (now (line .entry)) ⌝ }
-{
-    let e = find(line, from, b' ');
-    if e < line.len() { e + 1 } else { e }
-}
-
-fn start_of(line: &[u8], n: usize) -> usize
-    ensures { λ r. ⌜ r ≤ length (now (line .entry)) ⌝ }
-{
-    let mut at = 0;
-    let mut left = n;
-    while 0 < left {
-        at = next_start(line, at);
-        left -= 1;
+    let v = (c % 16) + 9 * (c / 64);
+    At {
+        digits: p.digits % MOST + 1,
+        on: true,
+        word: (p.word << 4) | v as u32,
     }
-    at
 }
 
-// Field n, from 0. Past the last one it is empty.
-pub(crate) fn field(line: &[u8], n: usize) -> &[u8] {
-    let a = start_of(line, n);
-    let e = find(line, a, b' ');
-    &line[a..e]
-}
-
-// What stands after the sign of equality: the answer as it is to be.
-pub(crate) fn wanted(line: &[u8]) -> &[u8] {
-    let sign = find(line, 0, b'=');
-    let a = next_start(line, sign);
-    &line[a..]
-}
-
-// What a hex digit stands for, and 16 for any other byte.
-fn value(c: u8) -> u32
-    ensures { λ r. ⌜ r ≤ 16 ⌝ }
-{
+fn step(p: At, c: u8, mark: u8) -> At {
     match c {
-        48..=57 => (c - 48) as u32,
-        97..=102 => (c - 87) as u32,
-        _ => 16,
+        0..=47 => p,
+        58..=63 => At {
+            digits: p.digits,
+            on: c == mark,
+            word: p.word,
+        },
+        _ => more(p, c),
     }
 }
 
-// The byte whose two digits stand at i, and 256 where none do.
-fn pair(hex: &[u8], i: usize) -> u32
-    ensures { λ r. ⌜ r ≤ 256 ⌝ }
-{
-    if hex.len() <= i {
-        return 256;
-    }
-    if hex.len() - i < 2 {
-        return 256;
-    }
-    let high = value(hex[i]);
-    let low = value(hex[i + 1]);
-    if 15 < high {
-        return 256;
-    }
-    if 15 < low {
-        return 256;
-    }
-    16 * high + low
+// Each digit completes the byte and the word that it stands in. (With no digit yet, it is the free ones at the end.)
+fn put(p: At, bytes: &mut [u8; BYTES], words: &mut [u32; WORDS]) {
+    let d = p.digits % DIGITS + (DIGITS - 1);
+    bytes[d / 2 % BYTES] = (p.word % 256) as u8;
+    words[d / 8 % WORDS] = p.word;
 }
 
-// The word whose eight digits stand at i, and 2^32 where none do.
-fn quad(hex: &[u8], i: usize) -> u64
-    ensures { λ r. ⌜ r ≤ 4294967296 ⌝ }
-{
-    if hex.len() <= i {
-        return 4294967296;
-    }
-    if hex.len() - i < 8 {
-        return 4294967296;
-    }
-    let a = pair(hex, i);
-    let b = pair(hex, i + 2);
-    let c = pair(hex, i + 4);
-    let d = pair(hex, i + 6);
-    if 255 < a {
-        return 4294967296;
-    }
-    if 255 < b {
-        return 4294967296;
-    }
-    if 255 < c {
-        return 4294967296;
-    }
-    if 255 < d {
-        return 4294967296;
-    }
-    (((a as u64) * 256 + (b as u64)) * 256 + (c as u64)) * 256 + (d as u64)
-}
-
-// Puts the bytes of a field at the start of out, and answers how many there are. What is no pair of digits ends them.
-pub(crate) fn bytes_of(hex: &[u8], out: &mut [u8]) -> usize
-    ensures { λ r. ⌜ Counts r (now (out .exit)) ⌝ }
-{
-    let mut n = 0;
-    while n < out.len() {
-        let b = pair(hex, 2 * n);
-        if 255 < b {
-            return n;
-        }
-        out[n] = b as u8;
-        n += 1;
-    }
-    n
-}
-
-// The same of words, eight digits each.
-pub(crate) fn words_of(hex: &[u8], out: &mut [u32]) -> usize
-    ensures { λ r. ⌜ Counts r (now (out .exit)) ⌝ }
-{
-    let mut n = 0;
-    while n < out.len() {
-        let w = quad(hex, 8 * n);
-        if 4294967295 < w {
-            return n;
-        }
-        out[n] = w as u32;
-        n += 1;
-    }
-    n
-}
-
-// A number in decimal. What is no digit, or would not fit, ends it.
-pub(crate) fn number_of(text: &[u8]) -> usize {
-    let mut n: usize = 0;
+// The part behind a mark.
+pub(crate) fn behind(line: &[u8], mark: u8) -> Part {
+    let mut bytes = [0u8; BYTES];
+    let mut words = [0u32; WORDS];
+    let mut p = At {
+        digits: 0,
+        on: false,
+        word: 0,
+    };
     let mut i = 0;
-    while i < text.len() {
-        let d = value(text[i]) as usize;
-        if 9 < d {
-            return n;
-        }
-        if (usize::MAX - d) / 10 < n {
-            return n;
-        }
-        n = 10 * n + d;
+    while i < line.len() {
+        p = step(p, line[i], mark);
+        put(p, &mut bytes, &mut words);
         i += 1;
     }
-    n
-}
-
-// Writes one byte at `at`, and answers the place after it. Nothing is written past the end.
-pub(crate) fn put(out: &mut [u8], at: usize, b: u8) -> usize {
-    if at < out.len() {
-        out[at] = b;
-        return at + 1;
+    let d = p.digits % DIGITS;
+    Part {
+        n: (d + 1) / 2,
+        m: (d + 7) / 8,
+        bytes,
+        words,
     }
-    at
 }
 
-pub(crate) fn put_text(out: &mut [u8], at: usize, text: &[u8]) -> usize {
-    let mut n = at;
+pub(crate) fn front(bytes: &[u8; BYTES], n: usize) -> &[u8] {
+    let all = &bytes[..];
+    let e = n % BYTES;
+    &all[0..e]
+}
+
+pub(crate) fn front_words(words: &[u32; WORDS], m: usize) -> &[u32] {
+    let all = &words[..];
+    let e = m % WORDS;
+    &all[0..e]
+}
+
+fn word(p: Part, i: usize) -> u32 {
+    let words = p.words;
+    words[i % WORDS]
+}
+
+// The first four words behind a mark.
+pub(crate) fn four(line: &[u8], mark: u8) -> State {
+    let p = behind(line, mark);
+    State {
+        s0: word(p, 0),
+        s1: word(p, 1),
+        s2: word(p, 2),
+        s3: word(p, 3),
+    }
+}
+
+// Where words stand in a part from a place on: the place after them, or NOWHERE, and then nothing stands after that.
+pub(crate) fn stand(p: Part, at: usize, got: &[u32]) -> usize {
     let mut i = 0;
-    while i < text.len() {
-        n = put(out, n, text[i]);
+    while i < got.len() {
+        if word(p, wrapping_add_usize(at, i)) != got[i] {
+            return NOWHERE;
+        }
         i += 1;
     }
-    n
+    wrapping_add_usize(at, got.len())
 }
 
-pub(crate) fn put_number(out: &mut [u8], at: usize, n: u64) -> usize {
-    let mut text = [0u8; 20];
-    let k = io::decimal(n, &mut text);
-    put_text(out, at, &text[..k])
+// Whether these words, and no more, are given.
+pub(crate) fn given(line: &[u8], got: &[u32]) -> bool {
+    let p = behind(line, b'=');
+    stand(p, 0, got) == p.m
 }
 
-fn put_hex(out: &mut [u8], at: usize, n: u64, width: usize) -> usize {
-    let mut text = [0u8; 16];
-    let k = io::hex(n, width, &mut text);
-    put_text(out, at, &text[..k])
-}
-
-fn put_byte(out: &mut [u8], at: usize, b: u8) -> usize {
-    put_hex(out, at, b as u64, 2)
-}
-
-fn put_word(out: &mut [u8], at: usize, w: u32) -> usize {
-    put_hex(out, at, w as u64, 8)
-}
-
-// The digits of bytes and of words. None at all are written as a dash.
-pub(crate) fn put_bytes(out: &mut [u8], at: usize, bytes: &[u8]) -> usize {
-    if bytes.len() == 0 {
-        return put(out, at, b'-');
-    }
-    let mut n = at;
-    let mut i = 0;
-    while i < bytes.len() {
-        n = put_byte(out, n, bytes[i]);
-        i += 1;
-    }
-    n
-}
-
-pub(crate) fn put_words(out: &mut [u8], at: usize, words: &[u32]) -> usize {
-    if words.len() == 0 {
-        return put(out, at, b'-');
-    }
-    let mut n = at;
-    let mut i = 0;
-    while i < words.len() {
-        n = put_word(out, n, words[i]);
-        i += 1;
-    }
-    n
+// Whether these bytes are what was lent, afterwards.
+pub(crate) fn left(line: &[u8], got: &[u8]) -> bool {
+    let p = behind(line, b'?');
+    let bytes = p.bytes;
+    same(front(&bytes, p.n), got)
 }
