@@ -4,13 +4,18 @@
     oracle/bench_model.py
 
 writes the last part of crates/replay/stdin, the calls with what must come of each, and crates/replay/stdout anew. A lane keeps the published state after 5t
-rounds done or undone, and never a fixsliced word. The list of calls depends on a fixed seed alone, and on how many lanes a bench has.
-crates/replay/src/benches.rt says how a call is written.
+rounds done or undone, and never a fixsliced word. The list of calls depends on fixed seeds alone, and on how many lanes a bench has.
+
+    oracle/bench_model.py --wrong
+
+prints cases that are all wrong, each by one digit: in each field of each record after each call, and in each field that the call gives.
+README.md beside this file says how a case is written.
 """
 import collections
 import os
 import random
 import subprocess
+import sys
 
 from cipher_model import block, number, packed, round_done, round_undone, rounds_of
 
@@ -26,16 +31,25 @@ FIRST = "# Calls of the bench by value, made by 'oracle/bench_model.py' from doc
 # ---- the bench
 
 class Lane:
+    """One record. Its words are those of a key, or, in a lane that is never served, any words at all."""
+
     def __init__(self):
-        self.key = bytes(16)
+        self.key, self.words = bytes(16), None
         self.idle()
 
     def idle(self):
+        """What a take or a close leaves: the words stay."""
         self.phase = self.direction = self.count = self.block = 0
 
     def sound(self):
-        counts = {IDLE: [0], RUNNING: range(8), FINISHED: [8]}
+        if self.phase == IDLE:
+            return self.idle_sound()
+        counts = {RUNNING: range(8), FINISHED: [8]}
         return self.count in counts.get(self.phase, []) and self.direction in (0, 1)
+
+    def idle_sound(self):
+        """What document 01 asks of a record whose phase is idle. This is the one place that says it."""
+        return self.count == 0 and self.direction in (0, 1)
 
     def serve(self):
         masks = rounds_of(self.key)
@@ -48,8 +62,15 @@ class Lane:
         if self.count == 8:
             self.phase = FINISHED
 
-    def head(self):
-        return self.phase << 24 | self.direction << 16 | self.count
+    def fields(self):
+        """The record as a case tells it: what is zero is left out."""
+        if self.words is not None:
+            words = "words", "".join("%08x" % w for w in self.words)
+        else:
+            words = "key", self.key.hex()
+        state = "".join("%08x" % w for w in packed(self.block))
+        every = [("phase", "%x" % self.phase), ("direction", "%x" % self.direction), ("count", "%x" % self.count), words, ("state", state)]
+        return {name: digits for name, digits in every if digits.strip("0")}
 
 
 def first(lines):
@@ -79,7 +100,7 @@ class Bench:
         ])
         if code == 0:
             l = self.lanes[lane]
-            l.key, l.block = key, number(block)
+            l.key, l.words, l.block = key, None, number(block)
             l.direction, l.count, l.phase = direction, 0, RUNNING
         return code
 
@@ -117,12 +138,12 @@ class Bench:
 
 # ---- the calls, written down
 
-def words(*ws):
-    return " ".join("%08x" % w for w in ws)
+def line(call, fields):
+    return " ".join([call, *("%s=%s" % (name, digits if digits else "-") for name, digits in fields.items())])
 
 
-def digits(data):
-    return data.hex() or "-"
+def record(n, fields):
+    return line("record", {"lane": "%x" % n, **fields})
 
 
 class Script:
@@ -132,21 +153,29 @@ class Script:
         while len(self.pool) < 64:
             self.pool.append(bytes(self.random.randrange(256) for _ in range(17)))
         self.lines = []
+        self.cases = {}
         self.kinds = collections.Counter()
         self.both = collections.Counter()
         self.bench = Bench()
+        self.told, self.last = [None] * LANES, None
 
     def heading(self, text):
         self.lines.append("## Bench: " + text)
 
-    def write(self, call, parts, code=0, made=0, buffer=None):
-        line = " ".join([call, *parts, "=", words(code, made, self.bench.last)])
-        for n, l in enumerate(self.bench.lanes):
-            if l.head() or l.block:
-                line += " " + words(n, l.head()) + " " + "".join("%08x" % w for w in packed(l.block))
-        if buffer is not None:
-            line += " ? " + digits(buffer)
-        self.lines.append(line)
+    def write(self, call, fields, code=None, made=0, left=None):
+        """A call with what it gives, after the records that are not as they were told before."""
+        before, self.told = self.told, [l.fields() for l in self.bench.lanes]
+        gives = {} if code is None else {"number": "%x" % code, "made": "%x" % made}
+        gives["last"] = "%x" % self.bench.last
+        if left is not None:
+            gives["left"] = left.hex()
+        for n in range(LANES):
+            if before[n] != self.told[n]:
+                self.lines.append(record(n, self.told[n]))
+        self.lines.append(line(call, {**fields, **gives}))
+        if code is not None and None not in before:
+            self.cases.setdefault((call, code), (before, self.last, self.told, fields, gives))
+        self.last = self.bench.last
         self.kinds[call] += 1
         self.both[call, code] += 1
         return code
@@ -159,35 +188,38 @@ class Script:
 
     def fresh(self):
         self.bench = Bench()
-        self.write("fresh", [])
+        self.write("fresh", {}, 0)
 
     def open(self, lane, direction=0, key=16, block=16):
         key, block = self.some(key), self.some(block)
-        parts = [":", words(lane, direction), "<", digits(key), ";", digits(block)]
-        return self.write("open_lane", parts, self.bench.open(lane, direction, key, block))
+        fields = {"lane": "%x" % lane, "direction": "%x" % direction, "key": key.hex(), "block": block.hex()}
+        return self.write("open_lane", fields, self.bench.open(lane, direction, key, block))
 
     def turn(self, asked):
         code, made = self.bench.turn(asked)
-        self.write("turn", [":", words(asked)], code, made)
+        self.write("turn", {"asked": "%x" % asked}, code, made)
         return code, made
 
     def take(self, lane, length=16):
         buffer = self.some(length)
         code, after = self.bench.take(lane, buffer)
-        return self.write("take", [":", words(lane), ">", digits(buffer)], code, buffer=after)
+        return self.write("take", {"lane": "%x" % lane, "lent": buffer.hex()}, code, left=after)
 
     def close(self, lane):
-        return self.write("close", [":", words(lane)], self.bench.close(lane))
+        return self.write("close", {"lane": "%x" % lane}, self.bench.close(lane))
 
-    def put(self, records, last, lane):
-        """The host's records, each with a phase, a direction and a count; every lane keeps its words, and all but one its state."""
+    def put(self, records, last, lane, wrong=None):
+        """The host's records, each with a phase, a direction and a count; every lane keeps its words, and all but one its state. A record that is to be
+        sound, and is not, is an idle one in its place."""
         state = number(self.some(16))
         self.bench.last = last
         for n, (l, record) in enumerate(zip(self.bench.lanes, records)):
             l.phase, l.direction, l.count = record
             if n == lane:
                 l.block = state
-            self.write("put", [":", words(n, l.head(), last), "<", words(*packed(l.block))])
+            if n != wrong and not l.sound():
+                self.bench.lanes[n] = Lane()
+        self.write("put", {})
 
     # ---- one call by chance: good ones mostly, and every limit now and then
 
@@ -257,7 +289,7 @@ class Script:
             records = [self.any_record() for _ in range(LANES)]
             if record:
                 records[n % LANES] = record
-            self.put(records, last, self.random.randrange(LANES))
+            self.put(records, last, self.random.randrange(LANES), None if record is None else n % LANES)
             given = [self.open(self.any_lane(IDLE)), self.open(LANES + 5, 9, 15, 15)]
             given += [self.turn(self.random.choice([0, 1, 32]))[0], self.turn(1025)[0]]
             given += [self.take(self.any_lane(FINISHED)), self.take(BIG, 17), self.close(self.any_lane()), self.close(n or 0)]
@@ -291,6 +323,49 @@ class Script:
             self.any_call()
             left -= 1
 
+    def wide_counts(self):
+        """Counts that are sound but for their higher byte: every call gives 10."""
+        self.heading("a count of sixteen bits not sound, put by the host")
+        for n, record in enumerate([(IDLE, 0, 256), (RUNNING, 0, 256), (RUNNING, 1, 263), (FINISHED, 0, 264), (FINISHED, 1, 8 << 8), (RUNNING, 0, 65535)]):
+            records = [self.any_record() for _ in range(LANES)]
+            records[n % LANES] = record
+            self.put(records, n % LANES, n % LANES, n % LANES)
+            given = [self.open(self.any_lane(IDLE)), self.turn(1)[0], self.take(self.any_lane(FINISHED)), self.close(n % LANES)]
+            assert given == [10] * 4
+        self.fresh()
+
+    def any_words(self):
+        """An idle record with words of no key, all of them or the last alone: what a call for another lane, an opening and a close make of it."""
+        self.heading("an idle record with any words, put by the host")
+        for n, some in enumerate([range(80), [79], [0]]):
+            for call in [lambda: self.turn(8), lambda: self.open(n), lambda: self.close(n), lambda: self.take((n + 1) % LANES)]:
+                self.fresh()
+                self.open((n + 1) % LANES)
+                self.turn(8)
+                self.bench.lanes[n].words = [self.random.randrange(1, 2 ** 32) if i in some else 0 for i in range(80)]
+                self.write("put", {})
+                call()
+        self.fresh()
+
+
+# ---- cases that are wrong
+
+def damaged(fields, name):
+    digits = fields.get(name, "0" * {"key": 32, "state": 32}.get(name, 1))
+    return {**fields, name: ("1" if digits[:1] in "0" else "0") + digits[1:]}
+
+
+def wrong_cases(cases):
+    """Of every call, and every number that it gives, one case again and again, each time with one digit damaged."""
+    for (call, _), (before, last, after, fields, gives) in cases.items():
+        tries = [(after[:n] + [damaged(after[n], name)] + after[n + 1:], gives) for n in range(LANES) for name in ("phase", "direction", "count", "key", "state")]
+        tries += [(after, damaged(gives, name)) for name in gives]
+        for records, given in tries:
+            yield from (record(n, r) for n, r in enumerate(before))
+            yield "put last=%x" % last
+            yield from (record(n, r) for n, r in enumerate(records))
+            yield line(call, {**fields, **given})
+
 
 def main():
     script = Script()
@@ -298,12 +373,16 @@ def main():
     script.unsound_benches()
     script.sound_benches()
     script.by_chance()
+    script.wide_counts()
+    script.any_words()
+    if sys.argv[1:] == ["--wrong"]:
+        print("\n".join(wrong_cases(script.cases)))
+        return
     # every number of every call's order is met
     for call, order in ORDERS.items():
         print("%-9s %4d: " % (call, script.kinds[call]) + ", ".join("number %d: %d" % (n, script.both[call, n]) for n in order))
         assert all(script.both[call, n] for n in order)
     print("fresh     %4d" % script.kinds["fresh"])
-    print("put       %4d" % script.kinds["put"])
     os.chdir(os.path.join(os.path.dirname(os.path.abspath(__file__)), ".."))
     stored = "crates/replay/stdin"
     kept = open(stored).read().split(FIRST + "\n")[0]
@@ -311,7 +390,7 @@ def main():
         f.write(kept + "\n".join([FIRST, *script.lines]) + "\n")
     with open("crates/replay/stdout", "w") as f:
         subprocess.run(["oracle/expected", stored], stdout=f, check=True)
-    print("%d calls and %d records put, %d bytes" % (script.calls(), script.kinds["put"], sum(len(l) + 1 for l in script.lines)))
+    print("%d calls, records put by the host %d times, %d bytes" % (script.calls(), script.kinds["put"], sum(len(l.encode()) + 1 for l in script.lines)))
 
 
 main()

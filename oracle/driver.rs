@@ -153,24 +153,25 @@ fn words(ws: &[u32]) -> String {
 
 /// A number of one word, and one of two.
 fn number(n: u32) -> String {
-    format!("{n:08x}")
+    format!("{n:x}")
 }
 
 fn wide(n: usize) -> String {
     format!("{n:016x}")
 }
 
-/// Who gives a case's answer.
+/// Who gives a case's answer: the crate; the plain rounds below; or document 01, or this port, that says of a refusal what comes of it.
 #[derive(Clone, Copy)]
 enum Judge {
     Crate,
-    Document,
+    Plain,
+    Stated,
 }
 
 impl Judge {
-    /// The crate where it can be asked, and else document 01.
+    /// The crate where it can be asked.
     fn crate_if(asked: bool) -> Judge {
-        if asked { Judge::Crate } else { Judge::Document }
+        if asked { Judge::Crate } else { Judge::Stated }
     }
 }
 
@@ -178,8 +179,8 @@ struct Cases {
     out: BufWriter<io::Stdout>,
     full: bool,
     seed: u64,
-    by_crate: usize,
-    by_document: usize,
+    /// How many answers came from each judge.
+    judged: [usize; 3],
 }
 
 impl Cases {
@@ -202,17 +203,14 @@ impl Cases {
         writeln!(self.out, "## {text}").unwrap();
     }
 
-    /// A call with its parts, each behind its mark.
-    fn case(&mut self, judge: Judge, name: &str, parts: &[(char, String)]) {
+    /// A call with its fields.
+    fn case(&mut self, judge: Judge, name: &str, fields: &[(&str, String)]) {
         write!(self.out, "{name}").unwrap();
-        for (mark, part) in parts {
-            write!(self.out, " {mark} {part}").unwrap();
+        for (field, digits) in fields {
+            write!(self.out, " {field}={digits}").unwrap();
         }
         writeln!(self.out).unwrap();
-        match judge {
-            Judge::Crate => self.by_crate += 1,
-            Judge::Document => self.by_document += 1,
-        }
+        self.judged[judge as usize] += 1;
     }
 
     // numbers by splitmix64
@@ -251,8 +249,8 @@ impl Cases {
             (Some(k), Some(b)) => by_key(way, &k, &b).to_vec(),
             _ => block.to_vec(),
         };
-        let parts = [('<', hex(key)), ('>', hex(block)), ('=', number(code)), ('?', hex(&after))];
-        self.case(Judge::crate_if(code == 0), &way.name("by_key"), &parts);
+        let fields = [("key", hex(key)), ("lent", hex(block)), ("number", number(code)), ("left", hex(&after))];
+        self.case(Judge::crate_if(code == 0), &way.name("by_key"), &fields);
     }
 
     fn one_round_case(&mut self, key: &[u8], block: &[u8]) {
@@ -261,8 +259,8 @@ impl Cases {
             (Some(k), Some(b)) => plain_rounds(&k, &b, 1).to_vec(),
             _ => block.to_vec(),
         };
-        let parts = [('<', hex(key)), ('>', hex(block)), ('=', number(code)), ('?', hex(&after))];
-        self.case(Judge::Document, "one_round", &parts);
+        let fields = [("key", hex(key)), ("lent", hex(block)), ("number", number(code)), ("left", hex(&after))];
+        self.case(if code == 0 { Judge::Plain } else { Judge::Stated }, "one_round", &fields);
     }
 
     /// A `Gift128` made from a refused key has eighty zero words (document 01).
@@ -272,8 +270,8 @@ impl Cases {
             Some(b) => (0, by_words(way, &k, &b).to_vec()),
             None => (2, block.to_vec()),
         };
-        let parts = [('<', hex(key)), ('>', hex(block)), ('=', number(code)), ('?', hex(&after))];
-        self.case(Judge::crate_if(key.len() == 16 && code == 0), &way.name("block"), &parts);
+        let fields = [("key", hex(key)), ("lent", hex(block)), ("number", number(code)), ("left", hex(&after))];
+        self.case(Judge::crate_if(key.len() == 16 && code == 0), &way.name("block"), &fields);
     }
 
     fn new_case(&mut self, key: &[u8]) {
@@ -281,7 +279,7 @@ impl Cases {
             Some(k) => (0, key_schedule::precompute_rkeys(&k)),
             None => (1, [0; 80]),
         };
-        self.case(Judge::crate_if(code == 0), "new", &[('<', hex(key)), ('=', number(code) + " " + &words(&k))]);
+        self.case(Judge::crate_if(code == 0), "new", &[("key", hex(key)), ("number", number(code)), ("gives", words(&k))]);
     }
 
     fn words_case(&mut self, way: Way, ws: &[u32], block: &[u8]) {
@@ -290,8 +288,8 @@ impl Cases {
             (_, None) => (2, block.to_vec()),
             (Some(k), Some(b)) => (0, by_words(way, &k, &b).to_vec()),
         };
-        let parts = [('<', words(ws)), ('>', hex(block)), ('=', number(code)), ('?', hex(&after))];
-        self.case(Judge::crate_if(code == 0), &way.name("by_words"), &parts);
+        let fields = [("words", words(ws)), ("lent", hex(block)), ("number", number(code)), ("left", hex(&after))];
+        self.case(Judge::crate_if(code == 0), &way.name("by_words"), &fields);
     }
 
     fn many_case(&mut self, way: Way, key: &[u8], input: &[u8], output: &[u8]) {
@@ -302,8 +300,8 @@ impl Cases {
         } else {
             output.to_vec()
         };
-        let parts = [('<', hex(key)), (';', hex(input)), ('>', hex(output)), ('=', number(code)), ('?', hex(&after))];
-        self.case(Judge::crate_if(code == 0 && !input.is_empty()), &way.name("blocks"), &parts);
+        let fields = [("key", hex(key)), ("input", hex(input)), ("lent", hex(output)), ("number", number(code)), ("left", hex(&after))];
+        self.case(Judge::crate_if(code == 0 && !input.is_empty()), &way.name("blocks"), &fields);
     }
 
     fn expand_case(&mut self, key: &[u8], ws: &[u32]) {
@@ -312,8 +310,8 @@ impl Cases {
             Some(_) if ws.len() != 80 => (4, ws.to_vec()),
             Some(k) => (0, key_schedule::precompute_rkeys(&k).to_vec()),
         };
-        let parts = [('<', hex(key)), ('>', words(ws)), ('=', number(code) + " " + &words(&after))];
-        self.case(Judge::crate_if(code == 0), "precompute_rkeys", &parts);
+        let fields = [("key", hex(key)), ("lent", words(ws)), ("number", number(code)), ("left", words(&after))];
+        self.case(Judge::crate_if(code == 0), "precompute_rkeys", &fields);
     }
 
     /// Fewer than ten words, or an offset that is none of 0, 5, .. 35, leave the state as it is: the stated answer of the port, since
@@ -322,20 +320,20 @@ impl Cases {
         let good = ws.len() >= 10 && i <= 35 && i % 5 == 0;
         let t = if good { quintuple(way, s, ws, i) } else { *s };
         let name = if way == Encrypt { "quintuple_round" } else { "inv_quintuple_round" };
-        let parts = [(':', words(s)), ('<', words(ws)), (';', wide(i)), ('=', words(&t))];
-        self.case(Judge::crate_if(good), name, &parts);
+        let fields = [("args", words(s)), ("words", words(ws)), ("offset", wide(i)), ("gives", words(&t))];
+        self.case(Judge::crate_if(good), name, &fields);
         t
     }
 
     fn packing_case(&mut self, block: &[u8]) {
         let s = array(block).map_or([0; 4], |b| packed(&b));
-        self.case(Judge::crate_if(block.len() == 16), "packing", &[('<', hex(block)), ('=', words(&s))]);
+        self.case(Judge::crate_if(block.len() == 16), "packing", &[("input", hex(block)), ("gives", words(&s))]);
     }
 
     fn unpacking_case(&mut self, s: &State, block: &[u8]) {
         let after = if block.len() == 16 { unpacked(s).to_vec() } else { block.to_vec() };
-        let parts = [(':', words(s)), ('>', hex(block)), ('=', number(0)), ('?', hex(&after))];
-        self.case(Judge::crate_if(block.len() == 16), "unpacking", &parts);
+        let fields = [("args", words(s)), ("lent", hex(block)), ("number", number(0)), ("left", hex(&after))];
+        self.case(Judge::crate_if(block.len() == 16), "unpacking", &fields);
     }
 }
 
@@ -505,8 +503,8 @@ fn first_rounds(c: &mut Cases) {
         let w = key_schedule::precompute_rkeys(&k);
         let n = 2 + c.next() as usize % c.some(79, 3);
         let after = packed(&plain_rounds(&k, &b, 1));
-        let parts = [(':', words(&packed(&b))), ('<', words(&w[..n])), ('=', words(&after))];
-        c.case(Judge::Document, "first_round", &parts);
+        let fields = [("args", words(&packed(&b))), ("words", words(&w[..n])), ("gives", words(&after))];
+        c.case(Judge::Plain, "first_round", &fields);
     }
 }
 
@@ -545,23 +543,23 @@ fn many_blocks(c: &mut Cases) {
 fn small_parts(c: &mut Cases) {
     c.heading("round_constant, the table");
     for (i, w) in consts::GIFT_RC.iter().enumerate() {
-        c.case(Judge::Crate, "round_constant", &[(':', wide(i)), ('=', number(*w))]);
+        c.case(Judge::Crate, "round_constant", &[("args", wide(i)), ("gives", number(*w))]);
     }
     c.heading("sbox, inv_sbox");
     for _ in 0..c.some(2_000, 4) {
         let s = c.state();
         let [mut s0, mut s1, mut s2, mut s3] = s;
         primitives::sbox(&mut s0, &mut s1, &mut s2, &mut s3);
-        c.case(Judge::Crate, "sbox", &[(':', words(&s)), ('=', words(&[s0, s1, s2, s3]))]);
+        c.case(Judge::Crate, "sbox", &[("args", words(&s)), ("gives", words(&[s0, s1, s2, s3]))]);
         let [mut s0, mut s1, mut s2, mut s3] = s;
         primitives::inv_sbox(&mut s0, &mut s1, &mut s2, &mut s3);
-        c.case(Judge::Crate, "inv_sbox", &[(':', words(&s)), ('=', words(&[s0, s1, s2, s3]))]);
+        c.case(Judge::Crate, "inv_sbox", &[("args", words(&s)), ("gives", words(&[s0, s1, s2, s3]))]);
     }
     c.heading("u32big");
     for _ in 0..c.some(1_000, 3) {
         let b = c.bytes(4);
         let four: Vec<u32> = b.iter().map(|b| *b as u32).collect();
-        c.case(Judge::Crate, "u32big", &[(':', words(&four)), ('=', number(primitives::u32big(&b)))]);
+        c.case(Judge::Crate, "u32big", &[("args", words(&four)), ("gives", number(primitives::u32big(&b)))]);
     }
     let rotations: [(&str, fn(&u32) -> u32); 9] = [
         ("byte_ror_2", primitives::byte_ror_2),
@@ -577,11 +575,11 @@ fn small_parts(c: &mut Cases) {
     c.heading("the nine rotations inside bytes, halves and nibbles");
     for (name, f) in rotations {
         for n in c.spread(32, 2) {
-            c.case(Judge::Crate, name, &[(':', number(1 << n)), ('=', number(f(&(1 << n))))]);
+            c.case(Judge::Crate, name, &[("args", number(1 << n)), ("gives", number(f(&(1 << n))))]);
         }
         for _ in 0..c.some(500, 1) {
             let x = c.next() as u32;
-            c.case(Judge::Crate, name, &[(':', number(x)), ('=', number(f(&x)))]);
+            c.case(Judge::Crate, name, &[("args", number(x)), ("gives", number(f(&x)))]);
         }
     }
     c.heading("ror, by 0 to 99 places");
@@ -589,7 +587,7 @@ fn small_parts(c: &mut Cases) {
         for _ in 0..c.some(20, 1) {
             let x = c.next() as u32;
             let y = y as u32;
-            c.case(Judge::Crate, "ror", &[(':', words(&[x, y])), ('=', number(primitives::ror(&x, &y)))]);
+            c.case(Judge::Crate, "ror", &[("args", words(&[x, y])), ("gives", number(primitives::ror(&x, &y)))]);
         }
     }
     // a shift by 32 or more goes by its last five bits in an optimised build, as this one is
@@ -599,10 +597,10 @@ fn small_parts(c: &mut Cases) {
             let [a, b, mask, _] = c.state();
             let (mut p, mut q) = (a, b);
             primitives::swapmove(&mut p, &mut q, mask, n as u8);
-            c.case(Judge::Crate, "swapmove", &[(':', words(&[a, b, mask, n as u32])), ('=', words(&[p, q, 0, 0]))]);
+            c.case(Judge::Crate, "swapmove", &[("args", words(&[a, b, mask, n as u32])), ("gives", words(&[p, q, 0, 0]))]);
             let mut p = a;
             primitives::swapmovesingle(&mut p, mask, n as u8);
-            c.case(Judge::Crate, "swapmovesingle", &[(':', words(&[a, mask, n as u32])), ('=', number(p))]);
+            c.case(Judge::Crate, "swapmovesingle", &[("args", words(&[a, mask, n as u32])), ("gives", number(p))]);
         }
     }
 }
@@ -673,7 +671,7 @@ fn refusals(c: &mut Cases) {
     c.heading("first_round, too few words");
     for w in 0..2 {
         let (s, w) = (c.state(), c.words(w));
-        c.case(Judge::Document, "first_round", &[(':', words(&s)), ('<', words(&w)), ('=', words(&s))]);
+        c.case(Judge::Stated, "first_round", &[("args", words(&s)), ("words", words(&w)), ("gives", words(&s))]);
     }
     c.heading("packing, unpacking, of any length");
     for b in c.lengths(33, &edges) {
@@ -683,7 +681,7 @@ fn refusals(c: &mut Cases) {
     }
     c.heading("round_constant, past the table");
     for r in (40..60).chain([usize::MAX]) {
-        c.case(Judge::Document, "round_constant", &[(':', wide(r)), ('=', number(0))]);
+        c.case(Judge::Stated, "round_constant", &[("args", wide(r)), ("gives", number(0))]);
     }
 }
 
@@ -702,7 +700,7 @@ fn main() {
         Some("sample") => false,
         _ => panic!("usage: driver full|sample"),
     };
-    let mut c = Cases { out: BufWriter::new(io::stdout()), full, seed: 128, by_crate: 0, by_document: 0 };
+    let mut c = Cases { out: BufWriter::new(io::stdout()), full, seed: 128, judged: [0; 3] };
     check_the_plain_rounds(&mut c);
     blocks_by_key(&mut c);
     by_an_instance(&mut c);
@@ -715,5 +713,6 @@ fn main() {
     small_parts(&mut c);
     refusals(&mut c);
     c.out.flush().unwrap();
-    eprintln!("{} cases answered by the crate, {} by document 01", c.by_crate, c.by_document);
+    let [by_crate, by_rounds, stated] = c.judged;
+    eprintln!("{by_crate} cases answered by the crate, {by_rounds} by plain rounds of document 01, {stated} stated by document 01 or this port");
 }

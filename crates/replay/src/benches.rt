@@ -1,162 +1,171 @@
-// The calls of the bench, by their place among the names in main.rt. Each is made on the bench that the one before it left.
+// The calls of the bench, by their numbers in main.rt: the fields of each are in oracle/README.md.
 //
-//     33 open_lane     : LANE DIRECTION < KEY ; BLOCK
-//     34 turn          : ASKED
-//     35 take          : LANE > BUFFER
-//     36 close         : LANE
-//     37 fresh         the bench is a fresh one
-//     38 put           : LANE HEAD LAST < STATE      what a host may do: it puts a record into a lane, and the number last served
-//
-// A record is put with the lane's own words, those of the key that opened it. Each gives, behind `=`,
-//
-//     NUMBER MADE LAST, and of every lane with anything in its head or state: LANE HEAD STATE
-//
-// and take leaves its buffer behind `?`. A head is a word: two digits of phase, two of direction, four of count.
+// Records are told by lines of their own, before the call that leaves them so: a line tells every field of a record, and a record that has
+// no line stays as it was. The call is right if it leaves all records as they are told, whole, down to each word.
 use crate::text::BYTES;
-use crate::text::Part;
-use crate::text::behind;
+use crate::text::field;
 use crate::text::four;
 use crate::text::front;
+use crate::text::front_words;
 use crate::text::left;
-use crate::text::stand;
+use crate::text::number;
+use crate::text::same_words;
+use crate::text::says;
+use bench::Answer;
 use bench::Bench;
 use bench::LANES;
+use gift128::Gift128;
 use lane::Lane;
-use primitives::State;
-ghost use Prim.Native.Nat.{_<_};
 
-// What came of a call.
-struct Came {
-    code: u32,
-    made: u32,
-    bench: Bench,
-}
+// ---- records
 
-// Whether that is as the line says, and the bench after it.
-pub(crate) struct Verdict {
-    pub(crate) right: bool,
-    pub(crate) bench: Bench,
-}
-
-fn plain(code: u32, bench: Bench) -> Came {
-    Came {
-        code,
-        made: 0,
-        bench,
+// The first eighty words, with zeros where there are fewer.
+fn eighty(from: &[u32]) -> [u32; 80] {
+    let mut to = [0u32; 80];
+    let mut i: usize = 0;
+    while i < 80 {
+        if i < from.len() {
+            to[i] = from[i];
+        }
+        i += 1;
     }
+    to
 }
 
-fn opened(b: Bench, s: State, line: &[u8]) -> Came {
-    let k = behind(line, b'<');
-    let t = behind(line, b';');
+// The words of a record: those that a key is expanded to, or the words themselves.
+fn words_told(line: &[u8]) -> [u32; 80] {
+    let k = field(line, b"key");
+    if k.n == 0 {
+        let w = field(line, b"words");
+        let words = w.words;
+        return eighty(front_words(&words, w.m));
+    }
     let key = k.bytes;
-    let block = t.bytes;
-    let o = bench::open_lane(b, s.s0, s.s1, front(&key, k.n), front(&block, t.n));
-    let bench = o.bench;
-    plain(o.code, bench)
+    let made = Gift128::new(front(&key, k.n));
+    let cipher = made.cipher;
+    cipher.k
 }
 
-fn turned(b: Bench, asked: u32) -> Came {
-    let o = bench::turn(b, asked);
-    let bench = o.bench;
-    Came {
-        code: o.code,
-        made: o.made,
-        bench,
-    }
-}
-
-fn closed(b: Bench, lane: u32) -> Came {
-    let o = bench::close(b, lane);
-    let bench = o.bench;
-    plain(o.code, bench)
-}
-
-fn record(l: Lane, head: u32, state: State) -> Lane {
-    let words = l.words;
+// The record that a line tells; a field that it does not have is zero.
+fn record(line: &[u8]) -> Lane {
+    let words = words_told(line);
+    let state = four(line, b"state");
     Lane {
-        phase: (head >> 24) as u8,
-        direction: ((head >> 16) % 256) as u8,
-        count: (head % 65536) as u16,
+        phase: (number(line, b"phase") % 256) as u8,
+        direction: (number(line, b"direction") % 256) as u8,
+        count: (number(line, b"count") % 65536) as u16,
         words,
         state,
     }
 }
 
-fn put(b: Bench, s: State, line: &[u8]) -> Came {
-    let i = s.s0 as usize;
+// The bench with a record more that is told.
+pub(crate) fn told(b: Bench, line: &[u8]) -> Bench {
+    let l = record(line);
+    let i = number(line, b"lane") as usize;
     let mut bench = b;
-    bench.last = s.s2;
     if i < LANES {
-        bench.lanes[i] = record(b.lanes[i], s.s1, four(line, b'<'));
+        bench.lanes[i] = l;
     }
-    plain(0, bench)
+    bench
 }
 
-fn called(call: usize, b: Bench, s: State, line: &[u8]) -> Came {
-    match call {
-        33 => opened(b, s, line),
-        34 => turned(b, s.s0),
-        36 => closed(b, s.s0),
-        37 => plain(0, bench::fresh()),
-        _ => put(b, s, line),
-    }
+fn same_eighty(a: [u32; 80], b: [u32; 80]) -> bool {
+    same_words(&a, &b)
 }
 
-fn head(l: Lane) -> u32 {
-    (l.phase as u32) << 24 | (l.direction as u32) << 16 | l.count as u32
+fn same_lane(a: Lane, b: Lane) -> bool {
+    let s = a.state;
+    let t = b.state;
+    let v = a.words;
+    let w = b.words;
+    let x = [
+        a.phase as u32,
+        a.direction as u32,
+        a.count as u32,
+        s.s0,
+        s.s1,
+        s.s2,
+        s.s3,
+    ];
+    let y = [
+        b.phase as u32,
+        b.direction as u32,
+        b.count as u32,
+        t.s0,
+        t.s1,
+        t.s2,
+        t.s3,
+    ];
+    same_words(&x, &y) & same_eighty(v, w)
 }
 
-// Where the lane stands in what is given, if there is anything in it.
-fn lane_stands(p: Part, at: usize, i: usize, l: Lane) -> usize
-    requires { ⌜ i < 65536 ⌝ }
-{
-    let h = head(l);
-    let s = l.state;
-    if (h | s.s0 | s.s1 | s.s2 | s.s3) == 0 {
-        return at;
-    }
-    stand(p, at, &[i as u32, h, s.s0, s.s1, s.s2, s.s3])
-}
-
-fn lanes_stand(p: Part, at: usize, lanes: [Lane; LANES]) -> usize {
-    let mut k = at;
+fn same_lanes(a: [Lane; LANES], b: [Lane; LANES]) -> bool {
+    let mut same = true;
     let mut i: usize = 0;
     while i < LANES {
-        k = lane_stands(p, k, i, lanes[i]);
+        same = same_lane(a[i], b[i]) & same;
         i += 1;
     }
-    k
+    same
 }
 
-fn bench_given(line: &[u8], c: Came) -> bool {
-    let p = behind(line, b'=');
-    let bench = c.bench;
-    let lanes = bench.lanes;
-    lanes_stand(p, stand(p, 0, &[c.code, c.made, bench.last]), lanes) == p.m
+// ---- calls
+
+fn opened(b: Bench, line: &[u8]) -> Answer {
+    let k = field(line, b"key");
+    let t = field(line, b"block");
+    let key = k.bytes;
+    let block = t.bytes;
+    bench::open_lane(
+        b,
+        number(line, b"lane"),
+        number(line, b"direction"),
+        front(&key, k.n),
+        front(&block, t.n),
+    )
 }
 
-fn judged(c: Came, line: &[u8], buffer: bool) -> Verdict {
-    let bench = c.bench;
-    Verdict {
-        right: buffer & bench_given(line, c),
+fn fresh() -> Answer {
+    let bench = bench::fresh();
+    Answer {
+        code: 0,
+        made: 0,
         bench,
     }
 }
 
-fn taken(b: Bench, lane: u32, line: &[u8]) -> Verdict {
-    let z = behind(line, b'>');
-    let mut buffer = z.bytes;
-    let n = io::count((z.n % BYTES) as isize, &buffer);
-    let o = bench::take(b, lane, &mut buffer[..n]);
-    let bench = o.bench;
-    judged(plain(o.code, bench), line, left(line, front(&buffer, n)))
+fn called(call: u32, b: Bench, line: &[u8]) -> Answer {
+    match call {
+        0x31 => opened(b, line),
+        0x32 => bench::turn(b, number(line, b"asked")),
+        0x33 => bench::close(b, number(line, b"lane")),
+        _ => fresh(),
+    }
 }
 
-pub(crate) fn tried(call: usize, b: Bench, line: &[u8]) -> Verdict {
-    let s = four(line, b':');
-    if call == 35 {
-        return taken(b, s.s0, line);
+fn answers(a: Answer, wanted: Bench, line: &[u8]) -> bool {
+    let bench = a.bench;
+    let lanes = bench.lanes;
+    let others = wanted.lanes;
+    let said = says(line, b"number", &[a.code])
+        & says(line, b"made", &[a.made])
+        & says(line, b"last", &[bench.last]);
+    said & same_lanes(lanes, others)
+}
+
+fn taken(b: Bench, wanted: Bench, line: &[u8]) -> bool {
+    let z = field(line, b"lent");
+    let mut buffer = z.bytes;
+    let n = io::count((z.n % BYTES) as isize, &buffer);
+    let a = bench::take(b, number(line, b"lane"), &mut buffer[..n]);
+    left(line, front(&buffer, n)) & answers(a, wanted, line)
+}
+
+// Whether the call gives what the line says, and leaves the bench that is wanted.
+pub(crate) fn right(call: u32, b: Bench, wanted: Bench, line: &[u8]) -> bool {
+    if call == 0x34 {
+        return taken(b, wanted, line);
     }
-    judged(called(call, b, s, line), line, true)
+    answers(called(call, b, line), wanted, line)
 }

@@ -1,29 +1,31 @@
 // Replays cases: makes each call that a line names, and compares what it gives and leaves with what the line says.
 //
-// Standard input is a file. A line of it is a case, `CALL PARTS` (text.rt has the parts, cipher.rt and benches.rt have the calls), or `## TEXT`,
-// a heading, under which the cases after it are counted, or `# TEXT`, a remark. The last line of the output says how many cases were equal and
-// how many different. The cases that the gate replays stand in the file stdin beside src/.
+// Standard input is a file. A line of it is a case, the name of a call and fields (text.rt), or `## TEXT`, a heading, under which the cases
+// after it are counted, or `# TEXT`, a remark, or it tells a record of the bench (benches.rt). The last line of the output says how many
+// cases were equal and how many different. The cases that the gate replays stand in the file stdin beside src/.
 mod benches;
 mod cipher;
 mod text;
 
 use bench::Bench;
 use bytes::scan::find;
-use check::same;
 use libc::STDIN_FILENO;
 use libc::STDOUT_FILENO;
 use std::num::wrapping_add_u64;
+use text::number;
 
 // How long a line can be.
 const LINE: usize = 4096;
 
-// Where the next line begins, how many cases were equal and how many different, how many were equal before the last heading, and the bench.
+// Where the next line begins, how many cases were equal and how many different, how many were equal before the last heading, the bench, and
+// the bench as it is to be after the next call.
 struct Run {
     at: u64,
     equal: u64,
     different: u64,
     before: u64,
     bench: Bench,
+    told: Bench,
 }
 
 fn say(text: &[u8]) {
@@ -63,56 +65,53 @@ fn counted(r: Run, right: bool, line: &[u8]) -> Run {
     q
 }
 
-// The place of a name among names that a space parts, from 1, and 0 where it is none of them.
-fn place_in(names: &[u8], name: &[u8]) -> usize {
-    let mut k = 0;
-    let mut at = 0;
-    while at < names.len() {
-        let e = find(names, at, names.len(), b' ');
-        k += 1;
-        if same(&names[at..e], name) {
-            return k;
-        }
-        at = e + 1;
-    }
-    0
-}
-
-fn call_of(line: &[u8]) -> usize {
+// The number of a call, and 0 for a name that is none. (The names are read as the fields of a line are: a number is in hex.)
+fn call_of(line: &[u8]) -> u32 {
     let e = find(line, 0, line.len(), b' ');
-    place_in(
-        b"encrypt_by_key decrypt_by_key one_round encrypt_block decrypt_block encrypt_by_words decrypt_by_words \
-          encrypt_blocks decrypt_blocks unpacking precompute_rkeys new ror swapmovesingle u32big \
-          byte_ror_2 byte_ror_4 byte_ror_6 half_ror_4 half_ror_8 half_ror_12 nibble_ror_1 nibble_ror_2 nibble_ror_3 \
-          round_constant sbox inv_sbox swapmove packing quintuple_round inv_quintuple_round first_round \
-          open_lane turn take close fresh put # ##",
+    number(
+        b"encrypt_by_key=1 decrypt_by_key=2 one_round=3 encrypt_block=4 decrypt_block=5 encrypt_by_words=6 decrypt_by_words=7 \
+          encrypt_blocks=8 decrypt_blocks=9 unpacking=a precompute_rkeys=b new=c \
+          ror=11 swapmovesingle=12 u32big=13 byte_ror_2=14 byte_ror_4=15 byte_ror_6=16 half_ror_4=17 half_ror_8=18 half_ror_12=19 \
+          nibble_ror_1=1a nibble_ror_2=1b nibble_ror_3=1c round_constant=1d \
+          sbox=21 inv_sbox=22 swapmove=23 packing=24 quintuple_round=25 inv_quintuple_round=26 first_round=27 \
+          open_lane=31 turn=32 close=33 take=34 fresh=35 put=41 record=42 #=51 ##=52",
         &line[0..e],
     )
 }
 
-fn on_bench(r: Run, call: usize, line: &[u8]) -> Run {
-    let v = benches::tried(call, r.bench, line);
-    let bench = v.bench;
+// The records that are told become the bench, whatever the call made of it: a difference is told once.
+fn on_bench(r: Run, call: u32, line: &[u8]) -> Run {
+    let bench = r.bench;
+    let mut told = r.told;
+    told.last = number(line, b"last");
     let mut q = r;
-    q.bench = bench;
-    counted(q, v.right, line)
+    q.bench = told;
+    q.told = told;
+    if call == 0x41 {
+        return q;
+    }
+    counted(q, benches::right(call, bench, told, line), line)
+}
+
+fn recorded(r: Run, line: &[u8]) -> Run {
+    let told = benches::told(r.told, line);
+    let mut q = r;
+    q.told = told;
+    q
 }
 
 fn judged(r: Run, line: &[u8]) -> Run {
     let call = call_of(line);
-    if call < 33 {
-        return counted(r, cipher::right(call, line), line);
+    match call {
+        0x31..=0x41 => on_bench(r, call, line),
+        0x42 => recorded(r, line),
+        0x51 => r,
+        0x52 => headed(r, line),
+        _ => counted(r, cipher::right(call, line), line),
     }
-    if call < 39 {
-        return on_bench(r, call, line);
-    }
-    if call == 40 {
-        return headed(r, line);
-    }
-    r
 }
 
-// The first line of a text. One that is too long is cut in two, and neither is a case.
+// The first line of a text. One that is too long is cut, and what is left of it is no call.
 fn first_judged(r: Run, text: &[u8]) -> Run {
     let e = find(text, 0, text.len(), b'\n');
     let mut q = r;
@@ -147,12 +146,14 @@ fn replayed(start: Run) -> Run {
 }
 
 fn main() {
+    let bench = bench::fresh();
     let r = replayed(Run {
         at: 0,
         equal: 0,
         different: 0,
         before: 0,
-        bench: bench::fresh(),
+        bench,
+        told: bench,
     });
     closed(r);
     say_count(r.equal, b" cases equal, ");

@@ -1,20 +1,16 @@
-// The text of a case: the parts of a line.
+// The text of a case: the fields of a line.
 //
-// A part stands behind its mark: hex digits, two to a byte and eight to a word, with spaces between them where a reader wants some.
-//
-//      :   the numbers and states that the call is given
-//      <   what it is lent to be read, bytes or words
-//      ;   more of that
-//      >   what it is lent to be changed
-//      =   the numbers and states that it gives, its number first
-//      ?   what was lent to be changed, afterwards
-//
-// Digits before the first mark are letters of the call's name. A part that is not there is empty.
+// A line is words with a space between them. The first is the name of a call, and the others are fields, NAME=DIGITS: hex digits, two to a byte
+// and eight to a word, with full stops between them where a reader wants some. A number may be written with fewer digits than eight. The
+// order of the fields is free, one that is not there is empty, and one that the call does not have is passed over. oracle/README.md has the
+// fields of each call.
+use bytes::scan::find;
 use check::same;
 use primitives::State;
-use std::num::wrapping_add_usize;
+ghost use Prim.Native.Nat.{_≤_};
+ghost use lib.ListN.{length};
 
-// How long a part can be; its last word is kept free.
+// How long a field can be; its last word is kept free.
 pub(crate) const WORDS: usize = 128;
 
 pub(crate) const BYTES: usize = 4 * WORDS;
@@ -23,10 +19,7 @@ const DIGITS: usize = 8 * WORDS;
 
 const MOST: usize = DIGITS - 8;
 
-// A place in no part.
-const NOWHERE: usize = 9223372036854775808;
-
-// A part, seen as bytes and seen as words: how many of each there are, one that is not whole among them, and zeros after them.
+// A field, seen as bytes and seen as words: how many of each there are, one that is not whole among them, and zeros after them.
 pub(crate) struct Part {
     pub(crate) n: usize,
     pub(crate) m: usize,
@@ -34,35 +27,37 @@ pub(crate) struct Part {
     pub(crate) words: [u32; WORDS],
 }
 
-// How far the reading of a part has come: its digits so far, whether more of them can follow, and the last eight.
+// How far the reading of a field has come: its digits so far, and the last eight.
 struct At {
     digits: usize,
-    on: bool,
     word: u32,
 }
 
-// One digit more, if this is the part that is read.
-fn more(p: At, c: u8) -> At {
-    if !p.on {
-        return p;
+// Where the name of a field ends, and its digits follow; the end of the line if it has no such field.
+fn place(line: &[u8], name: &[u8]) -> usize
+    ensures { λ r. ⌜ r ≤ length (now (line .entry)) ⌝ }
+{
+    let mut at = 0;
+    while at < line.len() {
+        let e = find(line, at, line.len(), b' ');
+        let q = find(line, at, e, b'=');
+        if same(&line[at..q], name) {
+            return q;
+        }
+        at = e + 1;
     }
-    let v = (c % 16) + 9 * (c / 64);
-    At {
-        digits: p.digits % MOST + 1,
-        on: true,
-        word: (p.word << 4) | v as u32,
-    }
+    line.len()
 }
 
-fn step(p: At, c: u8, mark: u8) -> At {
+// One byte more: a digit, or none.
+fn more(p: At, c: u8) -> At {
     match c {
         0..=47 => p,
-        58..=63 => At {
-            digits: p.digits,
-            on: c == mark,
-            word: p.word,
+        58..=63 => p,
+        _ => At {
+            digits: p.digits % MOST + 1,
+            word: (p.word << 4) | ((c % 16) + 9 * (c / 64)) as u32,
         },
-        _ => more(p, c),
     }
 }
 
@@ -73,18 +68,13 @@ fn put(p: At, bytes: &mut [u8; BYTES], words: &mut [u32; WORDS]) {
     words[d / 8 % WORDS] = p.word;
 }
 
-// The part behind a mark.
-pub(crate) fn behind(line: &[u8], mark: u8) -> Part {
+fn read(text: &[u8]) -> Part {
     let mut bytes = [0u8; BYTES];
     let mut words = [0u32; WORDS];
-    let mut p = At {
-        digits: 0,
-        on: false,
-        word: 0,
-    };
+    let mut p = At { digits: 0, word: 0 };
     let mut i = 0;
-    while i < line.len() {
-        p = step(p, line[i], mark);
+    while i < text.len() {
+        p = more(p, text[i]);
         put(p, &mut bytes, &mut words);
         i += 1;
     }
@@ -95,6 +85,12 @@ pub(crate) fn behind(line: &[u8], mark: u8) -> Part {
         bytes,
         words,
     }
+}
+
+pub(crate) fn field(line: &[u8], name: &[u8]) -> Part {
+    let a = place(line, name);
+    let e = find(line, a, line.len(), b' ');
+    read(&line[a..e])
 }
 
 pub(crate) fn front(bytes: &[u8; BYTES], n: usize) -> &[u8] {
@@ -109,43 +105,47 @@ pub(crate) fn front_words(words: &[u32; WORDS], m: usize) -> &[u32] {
     &all[0..e]
 }
 
-fn word(p: Part, i: usize) -> u32 {
-    let words = p.words;
-    words[i % WORDS]
-}
-
-// The first four words behind a mark.
-pub(crate) fn four(line: &[u8], mark: u8) -> State {
-    let p = behind(line, mark);
+// The first four words of a field.
+pub(crate) fn four(line: &[u8], name: &[u8]) -> State {
+    let p = field(line, name);
+    let w = p.words;
     State {
-        s0: word(p, 0),
-        s1: word(p, 1),
-        s2: word(p, 2),
-        s3: word(p, 3),
+        s0: w[0],
+        s1: w[1],
+        s2: w[2],
+        s3: w[3],
     }
 }
 
-// Where words stand in a part from a place on: the place after them, or NOWHERE, and then nothing stands after that.
-pub(crate) fn stand(p: Part, at: usize, got: &[u32]) -> usize {
+pub(crate) fn number(line: &[u8], name: &[u8]) -> u32 {
+    let s = four(line, name);
+    s.s0
+}
+
+pub(crate) fn same_words(a: &[u32], b: &[u32]) -> bool {
+    if a.len() != b.len() {
+        return false;
+    }
     let mut i = 0;
-    while i < got.len() {
-        if word(p, wrapping_add_usize(at, i)) != got[i] {
-            return NOWHERE;
+    while i < a.len() {
+        if a[i] != b[i] {
+            return false;
         }
         i += 1;
     }
-    wrapping_add_usize(at, got.len())
+    true
 }
 
-// Whether these words, and no more, are given.
-pub(crate) fn given(line: &[u8], got: &[u32]) -> bool {
-    let p = behind(line, b'=');
-    stand(p, 0, got) == p.m
+// Whether a field has these words, and no more.
+pub(crate) fn says(line: &[u8], name: &[u8], got: &[u32]) -> bool {
+    let p = field(line, name);
+    let words = p.words;
+    same_words(front_words(&words, p.m), got)
 }
 
 // Whether these bytes are what was lent, afterwards.
 pub(crate) fn left(line: &[u8], got: &[u8]) -> bool {
-    let p = behind(line, b'?');
+    let p = field(line, b"left");
     let bytes = p.bytes;
     same(front(&bytes, p.n), got)
 }

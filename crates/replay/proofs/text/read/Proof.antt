@@ -1,18 +1,18 @@
--- `behind` ends: a byte of the line fewer is left.
-use borrow.Author.Needs.{needs}
+-- `read` ends: a byte of the text fewer is left.
 use Prim.Native.Nat.{_≤_, _-_}
 use lib.ListN.{length}
-use Rattle.replay.proofs.text.behind.Statement.{statement}
-use Rattle.replay.proofs.text.behind.Tie as tie
+use borrow.Author.Needs.{needs}
+use Rattle.replay.proofs.text.read.Statement.{statement}
+use Rattle.replay.proofs.text.read.Tie as tie
 
 abbrev Inv-loop : tie.InvT-loop
-Inv-loop line mark bytes₀ words₀ p₀ i₀ bytes words p i = i ≤ length line
+Inv-loop text bytes₀ words₀ p₀ i₀ bytes words p i = i ≤ length text
 
 abbrev μ-loop : tie.MeasureT-loop
-μ-loop line mark bytes₀ words₀ p₀ i₀ bytes words p i = length line - i
+μ-loop text bytes₀ words₀ p₀ i₀ bytes words p i = length text - i
 
-pub behind-spec : {M : Type 1} → statement M
-behind-spec =
+pub read-spec : {M : Type 1} → statement M
+read-spec =
     tie.close
     (tie.spec
     Inv-loop
