@@ -10,7 +10,7 @@ use crate::text::front_words;
 use crate::text::left;
 use crate::text::number;
 use crate::text::same_words;
-use crate::text::says;
+use crate::text::says_one;
 use bench::Answer;
 use bench::Bench;
 use bench::LANES;
@@ -112,18 +112,13 @@ fn same_lanes(a: [Lane; LANES], b: [Lane; LANES]) -> bool {
 
 // ---- calls
 
-fn opened(b: Bench, line: &[u8]) -> Answer {
+fn opened(b: Bench, lane: u32, line: &[u8]) -> Answer {
     let k = field(line, b"key");
     let t = field(line, b"block");
     let key = k.bytes;
     let block = t.bytes;
-    bench::open_lane(
-        b,
-        number(line, b"lane"),
-        number(line, b"direction"),
-        front(&key, k.n),
-        front(&block, t.n),
-    )
+    let direction = number(line, b"direction");
+    bench::open_lane(b, lane, direction, front(&key, k.n), front(&block, t.n))
 }
 
 fn fresh() -> Answer {
@@ -135,37 +130,39 @@ fn fresh() -> Answer {
     }
 }
 
-fn called(call: u32, b: Bench, line: &[u8]) -> Answer {
+fn called(call: u32, b: Bench, lane: u32, line: &[u8]) -> Answer {
     match call {
-        0x31 => opened(b, line),
+        0x31 => opened(b, lane, line),
         0x32 => bench::turn(b, number(line, b"asked")),
-        0x33 => bench::close(b, number(line, b"lane")),
+        0x33 => bench::close(b, lane),
         _ => fresh(),
     }
+}
+
+fn says_all(line: &[u8], code: u32, made: u32, last: u32) -> bool {
+    says_one(line, b"number", code) & says_one(line, b"made", made) & says_one(line, b"last", last)
 }
 
 fn answers(a: Answer, wanted: Bench, line: &[u8]) -> bool {
     let bench = a.bench;
     let lanes = bench.lanes;
     let others = wanted.lanes;
-    let said = says(line, b"number", &[a.code])
-        & says(line, b"made", &[a.made])
-        & says(line, b"last", &[bench.last]);
-    said & same_lanes(lanes, others)
+    says_all(line, a.code, a.made, bench.last) & same_lanes(lanes, others)
 }
 
-fn taken(b: Bench, wanted: Bench, line: &[u8]) -> bool {
+fn taken(b: Bench, lane: u32, wanted: Bench, line: &[u8]) -> bool {
     let z = field(line, b"lent");
     let mut buffer = z.bytes;
     let n = io::count((z.n % BYTES) as isize, &buffer);
-    let a = bench::take(b, number(line, b"lane"), &mut buffer[..n]);
+    let a = bench::take(b, lane, &mut buffer[..n]);
     left(line, front(&buffer, n)) & answers(a, wanted, line)
 }
 
 // Whether the call gives what the line says, and leaves the bench that is wanted.
 pub(crate) fn right(call: u32, b: Bench, wanted: Bench, line: &[u8]) -> bool {
+    let lane = number(line, b"lane");
     if call == 0x34 {
-        return taken(b, wanted, line);
+        return taken(b, lane, wanted, line);
     }
-    answers(called(call, b, line), wanted, line)
+    answers(called(call, b, lane, line), wanted, line)
 }

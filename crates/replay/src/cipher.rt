@@ -8,6 +8,7 @@ use crate::text::front;
 use crate::text::front_words;
 use crate::text::left;
 use crate::text::says;
+use crate::text::says_one;
 use gift128::Gift128;
 use primitives::State;
 ghost use Rattle.io.specs.Counts.{Counts};
@@ -81,7 +82,7 @@ fn lent(call: u32, line: &[u8]) -> bool {
     let mut bytes = z.bytes;
     let n = io::count((z.n % BYTES) as isize, &bytes);
     let code = changed(call, line, &mut bytes[..n]);
-    left(line, front(&bytes, n)) & says(line, b"number", &[code])
+    left(line, front(&bytes, n)) & says_one(line, b"number", code)
 }
 
 // m, or all of words where m is more.
@@ -101,7 +102,7 @@ fn expanded(line: &[u8]) -> bool {
     let mut words = z.words;
     let m = within(z.m, &words);
     let code = key_schedule::precompute_rkeys(front(&key, k.n), &mut words[..m]);
-    says(line, b"left", front_words(&words, m)) & says(line, b"number", &[code])
+    says(line, b"left", front_words(&words, m)) & says_one(line, b"number", code)
 }
 
 fn new(line: &[u8]) -> bool {
@@ -110,7 +111,7 @@ fn new(line: &[u8]) -> bool {
     let made = Gift128::new(front(&key, k.n));
     let cipher = made.cipher;
     let words = cipher.k;
-    says(line, b"gives", &words) & says(line, b"number", &[made.code])
+    says(line, b"gives", &words) & says_one(line, b"number", made.code)
 }
 
 fn low(w: u32) -> u8 {
@@ -198,7 +199,7 @@ pub(crate) fn right(call: u32, line: &[u8]) -> bool {
         0x1..=0xa => lent(call, line),
         0xb => expanded(line),
         0xc => new(line),
-        0x11..=0x1d => says(line, b"gives", &[word(call, four(line, b"args"))]),
+        0x11..=0x1d => says_one(line, b"gives", word(call, four(line, b"args"))),
         _ => gives(line, state(call, line)),
     }
 }

@@ -143,6 +143,10 @@ pub(crate) fn says(line: &[u8], name: &[u8], got: &[u32]) -> bool {
     same_words(front_words(&words, p.m), got)
 }
 
+pub(crate) fn says_one(line: &[u8], name: &[u8], got: u32) -> bool {
+    says(line, name, &[got])
+}
+
 // Whether these bytes are what was lent, afterwards.
 pub(crate) fn left(line: &[u8], got: &[u8]) -> bool {
     let p = field(line, b"left");
