@@ -174,7 +174,8 @@ class Script:
                 self.lines.append(record(n, self.told[n]))
         self.lines.append(line(call, {**fields, **gives}))
         if code is not None and None not in before:
-            self.cases.setdefault((call, code), (before, self.last, self.told, fields, gives))
+            plain = all("words" not in told for told in self.told)
+            self.cases.setdefault((call, code, plain), (before, self.last, self.told, fields, gives))
         self.last = self.bench.last
         self.kinds[call] += 1
         self.both[call, code] += 1
@@ -334,15 +335,18 @@ class Script:
             assert given == [10] * 4
         self.fresh()
 
-    def any_words(self):
-        """An idle record with words of no key, all of them or the last alone: what a call for another lane, an opening and a close make of it."""
-        self.heading("an idle record with any words, put by the host")
-        for n, some in enumerate([range(80), [79], [0]]):
-            for call in [lambda: self.turn(8), lambda: self.open(n), lambda: self.close(n), lambda: self.take((n + 1) % LANES)]:
+    def idle_records(self):
+        """An idle record with one thing in it, words of no key or a direction or a state: what a call for another lane, an opening and a close make of it."""
+        self.heading("an idle record with anything in it, put by the host")
+        some = lambda places: [self.random.randrange(1, 2 ** 32) if i in places else 0 for i in range(80)]
+        changes = [("words", some(range(80))), ("words", some([0])), ("words", some([79])), ("direction", 1), ("block", 1), ("block", 1 << 127)]
+        for k, change in enumerate(changes):
+            n, other = k % LANES, (k + 1) % LANES
+            for call in [lambda: self.turn(8), lambda: self.open(n), lambda: self.close(n), lambda: self.take(other)]:
                 self.fresh()
-                self.open((n + 1) % LANES)
+                self.open(other)
                 self.turn(8)
-                self.bench.lanes[n].words = [self.random.randrange(1, 2 ** 32) if i in some else 0 for i in range(80)]
+                setattr(self.bench.lanes[n], *change)
                 self.write("put", {})
                 call()
         self.fresh()
@@ -351,14 +355,17 @@ class Script:
 # ---- cases that are wrong
 
 def damaged(fields, name):
-    digits = fields.get(name, "0" * {"key": 32, "state": 32}.get(name, 1))
+    digits = fields.get(name, "0" * {"key": 32, "words": 640, "state": 32}.get(name, 1))
     return {**fields, name: ("1" if digits[:1] in "0" else "0") + digits[1:]}
 
 
 def wrong_cases(cases):
-    """Of every call, and every number that it gives, one case again and again, each time with one digit damaged."""
-    for (call, _), (before, last, after, fields, gives) in cases.items():
-        tries = [(after[:n] + [damaged(after[n], name)] + after[n + 1:], gives) for n in range(LANES) for name in ("phase", "direction", "count", "key", "state")]
+    """Of every call, every number that it gives and both ways to tell words, one case again and again, each time with one digit damaged."""
+    for (call, _, plain), (before, last, after, fields, gives) in cases.items():
+        tries = []
+        for n, told in enumerate(after):
+            words = "key" if plain or "key" in told else "words"
+            tries += [(after[:n] + [damaged(told, name)] + after[n + 1:], gives) for name in ("phase", "direction", "count", words, "state")]
         tries += [(after, damaged(gives, name)) for name in gives]
         for records, given in tries:
             yield from (record(n, r) for n, r in enumerate(before))
@@ -374,7 +381,7 @@ def main():
     script.sound_benches()
     script.by_chance()
     script.wide_counts()
-    script.any_words()
+    script.idle_records()
     if sys.argv[1:] == ["--wrong"]:
         print("\n".join(wrong_cases(script.cases)))
         return

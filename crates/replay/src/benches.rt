@@ -3,19 +3,25 @@
 // Records are told by lines of their own, before the call that leaves them so: a line tells every field of a record, and a record that has
 // no line stays as it was. The call is right if it leaves all records as they are told, whole, down to each word.
 use crate::text::BYTES;
+use crate::text::Part;
 use crate::text::field;
 use crate::text::four;
 use crate::text::front;
 use crate::text::front_words;
+use crate::text::key;
 use crate::text::left;
+use crate::text::lent;
 use crate::text::number;
 use crate::text::same_words;
+use crate::text::says_number;
 use crate::text::says_one;
+use crate::text::words;
 use bench::Answer;
 use bench::Bench;
 use bench::LANES;
 use gift128::Gift128;
 use lane::Lane;
+use primitives::State;
 
 // ---- records
 
@@ -32,18 +38,26 @@ fn eighty(from: &[u32]) -> [u32; 80] {
     to
 }
 
-// The words of a record: those that a key is expanded to, or the words themselves.
-fn words_told(line: &[u8]) -> [u32; 80] {
-    let k = field(line, b"key");
-    if k.n == 0 {
-        let w = field(line, b"words");
-        let words = w.words;
-        return eighty(front_words(&words, w.m));
-    }
+fn words_of(k: Part) -> [u32; 80] {
     let key = k.bytes;
     let made = Gift128::new(front(&key, k.n));
     let cipher = made.cipher;
     cipher.k
+}
+
+fn words_given(line: &[u8]) -> [u32; 80] {
+    let w = words(line);
+    let words = w.words;
+    eighty(front_words(&words, w.m))
+}
+
+// The words of a record: those that a key is expanded to, or the words themselves.
+fn words_told(line: &[u8]) -> [u32; 80] {
+    let k = key(line);
+    if k.n == 0 {
+        return words_given(line);
+    }
+    words_of(k)
 }
 
 // The record that a line tells; a field that it does not have is zero.
@@ -74,30 +88,15 @@ fn same_eighty(a: [u32; 80], b: [u32; 80]) -> bool {
     same_words(&a, &b)
 }
 
+fn same_state(s: State, t: State) -> bool {
+    (s.s0 == t.s0) & (s.s1 == t.s1) & (s.s2 == t.s2) & (s.s3 == t.s3)
+}
+
 fn same_lane(a: Lane, b: Lane) -> bool {
-    let s = a.state;
-    let t = b.state;
     let v = a.words;
     let w = b.words;
-    let x = [
-        a.phase as u32,
-        a.direction as u32,
-        a.count as u32,
-        s.s0,
-        s.s1,
-        s.s2,
-        s.s3,
-    ];
-    let y = [
-        b.phase as u32,
-        b.direction as u32,
-        b.count as u32,
-        t.s0,
-        t.s1,
-        t.s2,
-        t.s3,
-    ];
-    same_words(&x, &y) & same_eighty(v, w)
+    let head = (a.phase == b.phase) & (a.direction == b.direction) & (a.count == b.count);
+    head & same_eighty(v, w) & same_state(a.state, b.state)
 }
 
 fn same_lanes(a: [Lane; LANES], b: [Lane; LANES]) -> bool {
@@ -113,7 +112,7 @@ fn same_lanes(a: [Lane; LANES], b: [Lane; LANES]) -> bool {
 // ---- calls
 
 fn opened(b: Bench, lane: u32, line: &[u8]) -> Answer {
-    let k = field(line, b"key");
+    let k = key(line);
     let t = field(line, b"block");
     let key = k.bytes;
     let block = t.bytes;
@@ -140,7 +139,7 @@ fn called(call: u32, b: Bench, lane: u32, line: &[u8]) -> Answer {
 }
 
 fn says_all(line: &[u8], code: u32, made: u32, last: u32) -> bool {
-    says_one(line, b"number", code) & says_one(line, b"made", made) & says_one(line, b"last", last)
+    says_number(line, code) & says_one(line, b"made", made) & says_one(line, b"last", last)
 }
 
 fn answers(a: Answer, wanted: Bench, line: &[u8]) -> bool {
@@ -151,7 +150,7 @@ fn answers(a: Answer, wanted: Bench, line: &[u8]) -> bool {
 }
 
 fn taken(b: Bench, lane: u32, wanted: Bench, line: &[u8]) -> bool {
-    let z = field(line, b"lent");
+    let z = lent(line);
     let mut buffer = z.bytes;
     let n = io::count((z.n % BYTES) as isize, &buffer);
     let a = bench::take(b, lane, &mut buffer[..n]);

@@ -1,14 +1,19 @@
 // The calls of the cipher and of its parts, by their numbers in main.rt: the fields of each are in oracle/README.md.
 //
 // A field may hold any number of bytes or words, and all are lent: what a call refuses is a case too.
+use crate::text;
 use crate::text::BYTES;
+use crate::text::args;
 use crate::text::field;
 use crate::text::four;
 use crate::text::front;
 use crate::text::front_words;
+use crate::text::key;
 use crate::text::left;
 use crate::text::says;
+use crate::text::says_number;
 use crate::text::says_one;
+use crate::text::words;
 use gift128::Gift128;
 use primitives::State;
 ghost use Rattle.io.specs.Counts.{Counts};
@@ -16,73 +21,64 @@ ghost use Rattle.io.specs.Counts.{Counts};
 fn by_instance(call: u32, key: &[u8], block: &mut [u8]) -> u32 {
     let made = Gift128::new(key);
     let cipher = made.cipher;
-    if call == 4 {
+    if call == 6 {
         return cipher.encrypt_block(block);
     }
     cipher.decrypt_block(block)
 }
 
-fn by_key(call: u32, key: &[u8], block: &mut [u8]) -> u32 {
+fn by_key(call: u32, key: &[u8], input: &[u8], lent: &mut [u8]) -> u32 {
     match call {
-        1 => gift128::encrypt_by_key(key, block),
-        2 => gift128::decrypt_by_key(key, block),
-        3 => gift128::one_round(key, block),
-        _ => by_instance(call, key, block),
+        1 => gift128::encrypt_by_key(key, lent),
+        2 => gift128::decrypt_by_key(key, lent),
+        3 => gift128::one_round(key, lent),
+        4 => gift128::encrypt_blocks(key, input, lent),
+        5 => gift128::decrypt_blocks(key, input, lent),
+        _ => by_instance(call, key, lent),
     }
 }
 
-fn by_words(call: u32, words: &[u32], block: &mut [u8]) -> u32 {
-    if call == 6 {
-        return gift128::encrypt_by_words(words, block);
-    }
-    gift128::decrypt_by_words(words, block)
+fn on_key(call: u32, line: &[u8], lent: &mut [u8]) -> u32 {
+    let k = key(line);
+    let q = field(line, b"input");
+    let key = k.bytes;
+    let input = q.bytes;
+    by_key(call, front(&key, k.n), front(&input, q.n), lent)
 }
 
-fn many(call: u32, key: &[u8], input: &[u8], output: &mut [u8]) -> u32 {
-    if call == 8 {
-        return gift128::encrypt_blocks(key, input, output);
-    }
-    gift128::decrypt_blocks(key, input, output)
-}
-
-fn on(call: u32, s: State, bytes: &[u8], words: &[u32], input: &[u8], lent: &mut [u8]) -> u32 {
-    if call < 6 {
-        return by_key(call, bytes, lent);
-    }
-    if call < 8 {
-        return by_words(call, words, lent);
-    }
-    if call < 0xa {
-        return many(call, bytes, input, lent);
-    }
+fn unpacked(s: State, lent: &mut [u8]) -> u32 {
     packing::unpacking(s, lent);
     0
 }
 
-fn changed(call: u32, line: &[u8], lent: &mut [u8]) -> u32 {
-    let k = field(line, b"key");
-    let w = field(line, b"words");
-    let q = field(line, b"input");
-    let key = k.bytes;
+fn by_words(call: u32, s: State, words: &[u32], lent: &mut [u8]) -> u32 {
+    match call {
+        8 => gift128::encrypt_by_words(words, lent),
+        9 => gift128::decrypt_by_words(words, lent),
+        _ => unpacked(s, lent),
+    }
+}
+
+fn on_words(call: u32, line: &[u8], lent: &mut [u8]) -> u32 {
+    let w = words(line);
     let words = w.words;
-    let input = q.bytes;
-    on(
-        call,
-        four(line, b"args"),
-        front(&key, k.n),
-        front_words(&words, w.m),
-        front(&input, q.n),
-        lent,
-    )
+    by_words(call, args(line), front_words(&words, w.m), lent)
+}
+
+fn changed(call: u32, line: &[u8], lent: &mut [u8]) -> u32 {
+    if call < 8 {
+        return on_key(call, line, lent);
+    }
+    on_words(call, line, lent)
 }
 
 // The calls that change bytes. What is lent to them is lent with its whole length, and looked at so.
 fn lent(call: u32, line: &[u8]) -> bool {
-    let z = field(line, b"lent");
+    let z = text::lent(line);
     let mut bytes = z.bytes;
     let n = io::count((z.n % BYTES) as isize, &bytes);
     let code = changed(call, line, &mut bytes[..n]);
-    left(line, front(&bytes, n)) & says_one(line, b"number", code)
+    left(line, front(&bytes, n)) & says_number(line, code)
 }
 
 // m, or all of words where m is more.
@@ -96,22 +92,22 @@ fn within(m: usize, words: &[u32]) -> usize
 }
 
 fn expanded(line: &[u8]) -> bool {
-    let k = field(line, b"key");
-    let z = field(line, b"lent");
+    let k = key(line);
+    let z = text::lent(line);
     let key = k.bytes;
     let mut words = z.words;
     let m = within(z.m, &words);
     let code = key_schedule::precompute_rkeys(front(&key, k.n), &mut words[..m]);
-    says(line, b"left", front_words(&words, m)) & says_one(line, b"number", code)
+    says(line, b"left", front_words(&words, m)) & says_number(line, code)
 }
 
 fn new(line: &[u8]) -> bool {
-    let k = field(line, b"key");
+    let k = key(line);
     let key = k.bytes;
     let made = Gift128::new(front(&key, k.n));
     let cipher = made.cipher;
     let words = cipher.k;
-    says(line, b"gives", &words) & says_one(line, b"number", made.code)
+    says(line, b"gives", &words) & says_number(line, made.code)
 }
 
 fn low(w: u32) -> u8 {
@@ -172,24 +168,25 @@ fn rounds(call: u32, s: State, words: &[u32], i: usize) -> State {
     }
 }
 
+fn packed(line: &[u8]) -> State {
+    let p = field(line, b"input");
+    let block = p.bytes;
+    packing::packing(front(&block, p.n))
+}
+
 fn state(call: u32, line: &[u8]) -> State {
-    if call == 0x24 {
-        let p = field(line, b"input");
-        let block = p.bytes;
-        return packing::packing(front(&block, p.n));
-    }
-    let w = field(line, b"words");
+    let w = words(line);
     let words = w.words;
-    rounds(
-        call,
-        four(line, b"args"),
-        front_words(&words, w.m),
-        wide(four(line, b"offset")),
-    )
+    let offset = wide(four(line, b"offset"));
+    rounds(call, args(line), front_words(&words, w.m), offset)
 }
 
 fn gives(line: &[u8], s: State) -> bool {
     says(line, b"gives", &[s.s0, s.s1, s.s2, s.s3])
+}
+
+fn gives_one(line: &[u8], w: u32) -> bool {
+    says_one(line, b"gives", w)
 }
 
 // Whether the call leaves and gives what the line says.
@@ -199,7 +196,8 @@ pub(crate) fn right(call: u32, line: &[u8]) -> bool {
         0x1..=0xa => lent(call, line),
         0xb => expanded(line),
         0xc => new(line),
-        0x11..=0x1d => says_one(line, b"gives", word(call, four(line, b"args"))),
+        0x11..=0x1d => gives_one(line, word(call, args(line))),
+        0x24 => gives(line, packed(line)),
         _ => gives(line, state(call, line)),
     }
 }

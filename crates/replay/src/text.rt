@@ -93,6 +93,19 @@ pub(crate) fn field(line: &[u8], name: &[u8]) -> Part {
     read(&line[a..e])
 }
 
+// The fields that many calls have.
+pub(crate) fn key(line: &[u8]) -> Part {
+    field(line, b"key")
+}
+
+pub(crate) fn lent(line: &[u8]) -> Part {
+    field(line, b"lent")
+}
+
+pub(crate) fn words(line: &[u8]) -> Part {
+    field(line, b"words")
+}
+
 pub(crate) fn front(bytes: &[u8; BYTES], n: usize) -> &[u8] {
     let all = &bytes[..];
     let e = n % BYTES;
@@ -115,6 +128,10 @@ pub(crate) fn four(line: &[u8], name: &[u8]) -> State {
         s2: w[2],
         s3: w[3],
     }
+}
+
+pub(crate) fn args(line: &[u8]) -> State {
+    four(line, b"args")
 }
 
 pub(crate) fn number(line: &[u8], name: &[u8]) -> u32 {
@@ -145,6 +162,10 @@ pub(crate) fn says(line: &[u8], name: &[u8], got: &[u32]) -> bool {
 
 pub(crate) fn says_one(line: &[u8], name: &[u8], got: u32) -> bool {
     says(line, name, &[got])
+}
+
+pub(crate) fn says_number(line: &[u8], code: u32) -> bool {
+    says_one(line, b"number", code)
 }
 
 // Whether these bytes are what was lent, afterwards.
