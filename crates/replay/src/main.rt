@@ -8,6 +8,7 @@ mod cipher;
 mod text;
 
 use bench::Bench;
+use bench::LANES;
 use bytes::scan::find;
 use libc::STDIN_FILENO;
 use libc::STDOUT_FILENO;
@@ -93,7 +94,11 @@ fn on_bench(r: Run, call: u32, line: &[u8]) -> Run {
     counted(q, benches::right(call, bench, told, line), line)
 }
 
+// A record that the bench does not have is a difference.
 fn recorded(r: Run, line: &[u8]) -> Run {
+    if LANES <= number(line, b"lane") as usize {
+        return counted(r, false, line);
+    }
     let told = benches::told(r.told, line);
     let mut q = r;
     q.told = told;
