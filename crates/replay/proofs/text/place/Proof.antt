@@ -1,25 +1,25 @@
--- `place_in` ends, and counts no more names than bytes.
+-- `place` ends: a word of the line fewer is left.
 use Prim.Native.Nat.{_≤_, _+_, _-_}
 use lib.ListN.{length}
 use borrow.Author.Needs.{needs}
-use Rattle.replay.proofs.calls.place_in.Statement.{statement}
-use Rattle.replay.proofs.calls.place_in.Tie as tie
+use Rattle.replay.proofs.text.place.Statement.{statement}
+use Rattle.replay.proofs.text.place.Tie as tie
 
 abbrev Inv-loop : tie.InvT-loop
-Inv-loop names name k₀ at₀ k at = (at ≤ length names + 1) × (k ≤ at)
+Inv-loop line name at₀ at = at ≤ length line + 1
 
 abbrev μ-loop : tie.MeasureT-loop
-μ-loop names name k₀ at₀ k at = length names + 1 - at
+μ-loop line name at₀ at = length line + 1 - at
 
-pub place-in-spec : {M : Type 1} → statement M
-place-in-spec =
+pub place-spec : {M : Type 1} → statement M
+place-spec =
     tie.close
     (tie.spec
     Inv-loop
     μ-loop
     (λ c. search needs)
     (λ c κs. search needs)
-    (λ c. search needs)
+    (λ c κs. search needs)
     (λ c. search needs)
     (λ c. search needs)
     (λ c. search needs)

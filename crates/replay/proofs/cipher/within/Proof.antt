@@ -1,7 +1,7 @@
--- `within` counts bytes of s.
+-- `within` counts words.
 use native.Mathlib.Omega.{arith}
-use Rattle.replay.proofs.within.Statement.{statement}
-use Rattle.replay.proofs.within.Tie as tie
+use Rattle.replay.proofs.cipher.within.Statement.{statement}
+use Rattle.replay.proofs.cipher.within.Tie as tie
 use Rattle.io.proofs.Counting.{counts}
 
 pub within-spec : {M : Type 1} → statement M

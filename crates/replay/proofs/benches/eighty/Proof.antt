@@ -1,22 +1,23 @@
--- `find` is safe and ends: the place only rises.
+-- `eighty` ends: a word fewer is left.
 use Prim.Native.Nat.{_≤_, _-_}
-use lib.ListN.{length}
 use borrow.Author.Needs.{needs}
-use Rattle.replay.proofs.text.find.Statement.{statement}
-use Rattle.replay.proofs.text.find.Tie as tie
+use Rattle.replay.proofs.benches.eighty.Statement.{statement}
+use Rattle.replay.proofs.benches.eighty.Tie as tie
 
 abbrev Inv-loop : tie.InvT-loop
-Inv-loop line from c i₀ i = (from ≤ i) × (i ≤ length line)
+Inv-loop from to₀ i₀ to i = i ≤ 80
 
 abbrev μ-loop : tie.MeasureT-loop
-μ-loop line from c i₀ i = length line - i
+μ-loop from to₀ i₀ to i = 80 - i
 
-pub find-spec : {M : Type 1} → statement M
-find-spec =
+pub eighty-spec : {M : Type 1} → statement M
+eighty-spec =
     tie.close
     (tie.spec
     Inv-loop
     μ-loop
+    (λ c. search needs)
+    (λ c. search needs)
     (λ c. search needs)
     (λ c. search needs)
     (λ c. search needs)
