@@ -223,7 +223,7 @@ static gift_lane records[RECORDS];  /* as the model has them */
 static uint32_t served = LANES - 1; /* the lane last served */
 static int opened[LANES];           /* by gift_open_lane, and not a record of the host's making; */
 static uint8_t promised[LANES][16]; /* then this is what the lane must yield */
-static unsigned made_by_host, unsound, slices, lasts, turns_made, yielded;
+static unsigned made_by_host, unsound, set_bits, slices, lasts, turns_made, yielded;
 
 static room benches;
 
@@ -242,7 +242,7 @@ static void lend_bench(size_t lanes_len)
     benches.size = lanes_len * sizeof(gift_lane);
 }
 
-/* A sound record such as a host may make: any words on any state. */
+/* A sound record such as a host may make: idle and all zero, or busy with any words on any state. */
 static gift_lane some_record(void)
 {
     gift_lane l;
@@ -251,8 +251,8 @@ static gift_lane some_record(void)
     l.state = (gift_state){(uint32_t)next(), (uint32_t)next(), (uint32_t)next(), (uint32_t)next()};
     l.phase = (uint8_t)below(3);
     l.direction = (uint8_t)below(2);
-    l.count = (uint16_t)(l.phase == 0 ? 0 : l.phase == 1 ? below(8) : 8);
-    return l;
+    l.count = (uint16_t)(l.phase == 1 ? below(8) : 8);
+    return l.phase == 0 ? (gift_lane){0} : l;
 }
 
 static void spoil(gift_lane *l)
@@ -262,7 +262,13 @@ static void spoil(gift_lane *l)
         {3, 0}, {3, 8}, {255, 0}, {255, 8},
     };
     static const uint8_t directions[] = {2, 3, 128, 255};
-    if (below(4) == 0) {
+    if (l->phase == 0 && below(4) != 0) {
+        /* one bit, in any field or any of the 84 words, makes an idle record unsound */
+        uint8_t *byte = (uint8_t *)l + below(sizeof *l);
+        *byte |= (uint8_t)(1u << below(8));
+        if (l->phase == 0)
+            set_bits++;
+    } else if (below(4) == 0) {
         l->direction = directions[below(sizeof directions)];
     } else {
         uint32_t n = below(sizeof off / sizeof *off);
@@ -414,6 +420,7 @@ int main(void)
     printf("%u turns were made; %u opened lanes yielded what GIFT-128 gives\n", turns_made, yielded);
     printf("%u sound records were the host's; %u calls met an unsound one, %u a slice of another length, %u a last served number that is no lane's\n", made_by_host,
            unsound, slices, lasts);
+    printf("%u of the unsound records were idle with one bit set somewhere\n", set_bits);
     printf("%u calls, %u differences\n", calls, differences);
     return differences > 0;
 }

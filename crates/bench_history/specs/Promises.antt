@@ -12,7 +12,7 @@ use Rattle.published.specs.Gift128.{pairsOf, rounds128, unrounds128, encrypted,
 use Rattle.primitives.specs.Packed.{stateOf}
 use Rattle.key_schedule.specs.Expand.{expanded}
 use Rattle.lane.specs.declared.Lane.{Lane}
-use Rattle.lane.specs.Record.{running, finished, lacks}
+use Rattle.lane.specs.Record.{idle, running, finished, lacks}
 use Rattle.bench.specs.declared.Bench.{Bench}
 use Rattle.bench.specs.Turning.{laneCount, laneAt, total}
 use Rattle.bench.specs.Calls.{freshBench, turnOf, takeOf, takenBytes}
@@ -132,3 +132,13 @@ pub record Refused (b : Bench) (c : Call) : Type 0 where
 pub record Frame (b : Bench) (c : Call) : Type 0 where
   pub lanes : (n : ℕ) → names n c ≡ false → laneAt (leaves b c .lanes) n ≡ laneAt (b .lanes) n
   pub last : asks c ≡ 0 → leaves b c .last ≡ b .last
+
+-- ---- what is wiped
+
+-- each record has eighty round words, as its type says
+abbrev pub Eighty : Bench → Type 0
+Eighty b = (n : ℕ) → n < laneCount → length (laneAt (b .lanes) n .words) ≡ 80
+
+-- every lane is idle
+abbrev pub AllIdle : Bench → Type 0
+AllIdle b = (n : ℕ) → n < laneCount → laneAt (b .lanes) n .phase ≡ idle
