@@ -56,7 +56,7 @@ run-sound (c ∷ cs) b s = run-sound cs (leaves b c) (sound-leaves b c s)
 pub ever-sound : (cs : List Call) → soundBench (run freshBench cs) ≡ true
 ever-sound cs = says-sound (run freshBench cs) (run-sound cs freshBench fresh-sound)
 
-run-append : (cs ds : List Call) (b : Bench) → run b (cs ++ ds) ≡ run (run b cs) ds
+pub run-append : (cs ds : List Call) (b : Bench) → run b (cs ++ ds) ≡ run (run b cs) ds
 unfolding run
 run-append [] ds b = refl
 run-append (c ∷ cs) ds b = run-append cs ds (leaves b c)

@@ -1,12 +1,15 @@
 -- No key outlives its lane: a lane that was taken from or closed is all zero, and so is every idle lane of a sound bench and of every history.
 use mathlib.Core.Path.{_≡_, refl, sym, ap, _∙_}
-use mathlib.Core.Bool.{true}
-use mathlib.Core.List.{List, [], _∷_}
+use mathlib.Core.Bool.{true, _&&_, not, false≢true}
+use mathlib.Core.List.{List, [], _∷_, _++_}
 use Prim.Native.Nat.{ℕ, zero, suc, _<_}
+use native.Mathlib.Decide.{ℕ-discrete}
 use lib.Dec.{eqb, ltb}
 use lib.ListN.{length, replicate, set, length-replicate, getD-replicate}
 use lib.Seq.{set-getD, ext-getD}
-use Rattle.bits.proofs.Truth.{cond-either}
+use borrow.Author.Tests.{eq-eqb}
+use Rattle.answers.specs.Numbers.{DONE}
+use Rattle.bits.proofs.Truth.{both, together, cond-either}
 use Rattle.key_schedule.specs.Expand.{expanded}
 use Rattle.key_schedule.proofs.Expanded.{length-expanded}
 use Rattle.gift128.specs.Calls.{newCode, newWords}
@@ -16,14 +19,14 @@ use Rattle.lane.proofs.Zero.{zero-is-idle}
 use Rattle.lane.proofs.Records.{idle-is}
 use Rattle.bench.specs.declared.Bench.{Bench}
 use Rattle.bench.specs.Turning.{laneCount, laneAt}
-use Rattle.bench.specs.Calls.{freshBench, soundBench, put}
+use Rattle.bench.specs.Calls.{freshBench, soundBench, put, openOf}
 use Rattle.bench.proofs.Soundness.{Sound, is-sound}
-use Rattle.bench_history.specs.History.{Call, opening, taking, closing, codeOf, leaves, run, servedTimes}
-use Rattle.bench_history.specs.Promises.{Eighty, AllIdle}
+use Rattle.bench_history.specs.History.{Call, opening, taking, closing, answerTo, codeOf, leaves, run, enters, releases, never, servedTimes}
+use Rattle.bench_history.specs.Promises.{Held, Eighty, AllIdle, Released}
 use Rattle.bench_history.proofs.Accepted.{opens, takes, closings}
-use Rattle.bench_history.proofs.Touched.{sound-leaves, put-here, Touch, touch, same, entered, left, served as serving}
-use Rattle.bench_history.proofs.Standing.{stand-turns}
-use Rattle.bench_history.proofs.Demand.{ever-sound}
+use Rattle.bench_history.proofs.Touched.{sound-leaves, put-here, Entered, Touch, touch, same, entered, left, served as serving}
+use Rattle.bench_history.proofs.Standing.{stand-turns, turns-wake-none}
+use Rattle.bench_history.proofs.Demand.{ever-sound, run-append, held}
 
 -- ---- after an accepted take or close, the lane is the idle one
 
@@ -100,9 +103,60 @@ unfolding run
 ever-eighty cs = eighty-run cs freshBench (is-sound freshBench (ever-sound [])) eighty-fresh
 
 -- a lane that no accepted opening holds is all zero
-pub none-outlives : (cs : List Call) (n : ℕ) → n < laneCount → laneAt (run freshBench cs .lanes) n .phase ≡ idle → laneAt (run freshBench cs .lanes) n ≡ idleLane
-none-outlives cs = idle-wiped (run freshBench cs) (ever-sound cs) (ever-eighty cs)
+pub none-outlives : (cs : List Call) (n : ℕ) → n < laneCount → (Held cs n → ⊥) → laneAt (run freshBench cs .lanes) n ≡ idleLane
+none-outlives cs n h unheld =
+    idle-wiped (run freshBench cs) (ever-sound cs) (ever-eighty cs) n h
+    (elim (ℕ-discrete (laneAt (run freshBench cs .lanes) n .phase) idle) [
+      | yes e ↦ e
+      | no ne ↦ absurd (unheld (held cs n ne))
+    ])
+
+-- an idle lane stays idle until it is opened
+entered-enters : (n : ℕ) (b : Bench) (c : Call) → Entered n b c → enters n b c ≡ true
+unfolding enters answerTo
+entered-enters n b c t =
+    ap (enters n b) (t .call)
+    ∙ together (eqb n n) _ (eq-eqb n n refl) (eq-eqb (openOf b n (t .direction) (t .key) (t .block) .code) DONE (rw (t .call) at (t .accepted)))
+
+idle-stays : (n : ℕ) (cs : List Call) (b : Bench) → Sound b → laneAt (b .lanes) n .phase ≡ idle → never (enters n) b cs ≡ true
+    → laneAt (run b cs .lanes) n .phase ≡ idle
+unfolding run never idleLane
+idle-stays n [] b s e k = e
+idle-stays n (c ∷ cs) b s e k =
+    let p = both (not (enters n b c)) (never (enters n) (leaves b c) cs) k in
+    idle-stays n cs (leaves b c) (sound-leaves b c s) (go (touch n b c) (p .0)) (p .1)
+  where
+    go : Touch n b c → not (enters n b c) ≡ true → laneAt (leaves b c .lanes) n .phase ≡ idle
+    go (same t) out = ap (λ (l : Lane). l .phase) (t .lane) ∙ e
+    go (entered t) out = absurd (false≢true (ap not (sym (entered-enters n b c t)) ∙ out))
+    go (left t) out = ap (λ (l : Lane). l .phase) (t .wiped)
+    go (serving asked f l z) out =
+        elim (ℕ-discrete (laneAt (leaves b c .lanes) n .phase) idle) [
+          | yes i ↦ i
+          | no ne ↦ absurd (turns-wake-none n asked b s (rw f at ne) e)
+        ]
+
+released-idle : (n : ℕ) (b : Bench) (c : Call) → releases n b c ≡ true → Touch n b c → laneAt (leaves b c .lanes) n .phase ≡ idle
+unfolding releases idleLane
+released-idle n b c r (same t) = absurd (false≢true (sym (t .kept) ∙ r))
+released-idle n b c r (entered t) = absurd (false≢true (sym (ap (releases n b) (t .call)) ∙ r))
+released-idle n b c r (left t) = ap (λ (l : Lane). l .phase) (t .wiped)
+released-idle n b c r (serving asked f l z) = absurd (false≢true (sym z ∙ r))
+
+-- a lane that was taken from or closed, and not opened since, is all zero
+pub released-wiped : (cs : List Call) (n : ℕ) → n < laneCount → Released cs n → laneAt (run freshBench cs .lanes) n ≡ idleLane
+unfolding run
+released-wiped cs n h r =
+    let b : Bench = run freshBench (r .before) in
+    let s : Sound b = is-sound b (ever-sound (r .before)) in
+    let e = idle-stays n (r .since) (leaves b (r .by)) (sound-leaves b (r .by) s) (released-idle n b (r .by) (r .released) (touch n b (r .by))) (r .unopened) in
+    idle-wiped (run freshBench cs) (ever-sound cs) (ever-eighty cs) n h
+    (ap (λ (ds : List Call). laneAt (run freshBench ds .lanes) n .phase) (sym (r .whole))
+    ∙ ap (λ (d : Bench). laneAt (d .lanes) n .phase) (run-append (r .before) (r .by ∷ r .since) freshBench) ∙ e)
 
 -- once each lane was taken from or closed, the bench is fresh but for the last served number
-pub all-released : (cs : List Call) → AllIdle (run freshBench cs) → run freshBench cs .lanes ≡ freshBench .lanes
-all-released cs = all-idle (run freshBench cs) (ever-sound cs) (ever-eighty cs)
+pub all-released : (cs : List Call) → ((n : ℕ) → n < laneCount → Released cs n) → run freshBench cs .lanes ≡ freshBench .lanes
+unfolding idleLane
+all-released cs each =
+    all-idle (run freshBench cs) (ever-sound cs) (ever-eighty cs)
+    (λ n h. ap (λ (l : Lane). l .phase) (released-wiped cs n h (each n h)))
