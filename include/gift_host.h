@@ -32,7 +32,7 @@
 extern "C" {
 #endif
 
-#define GIFT_HOST_EDITION 1 /* of this header */
+#define GIFT_HOST_EDITION 2 /* of this header */
 
 /* The edition of the library that is linked. */
 uint32_t gift_host_edition(void);
@@ -81,8 +81,11 @@ uint32_t gift_decrypt_blocks(const uint8_t *key, size_t key_len, const uint8_t *
  * zero and the last served number GIFT_FRESH_LAST. The host keeps both. It passes the last served number by value;
  * only gift_turn moves it, and gives the new one back.
  *
- * A record is sound if its direction is 0 or 1 and it is idle with count 0, running with count 0 to 7, or finished with
- * count 8. Every call looks at all four and refuses with 10 if one is not sound; none repairs it.
+ * A record is sound if it is all zero, which is idle, or if its direction is 0 or 1 and it is running with count 0 to 7 or
+ * finished with count 8. Every call looks at all of every record and refuses with 10 if one is not sound; none repairs it.
+ * A take and a close leave the record all zero: no round word or block stays in it. What a call itself had on the stack or in
+ * registers is not wiped: the round words of a lane that was opened or turned may lie below the caller's frame until
+ * something else is written there.
  */
 
 #define GIFT_LANES 4           /* records of a bench */
@@ -128,11 +131,10 @@ uint32_t gift_open_lane(gift_lane *lanes, size_t lanes_len, uint32_t last, uint3
  * closed is finished no later than the 32nd turn made after its opening, whatever the other lanes do. Refusals: 10, 8. */
 gift_turns gift_turn(gift_lane *lanes, size_t lanes_len, uint32_t last, uint32_t asked);
 
-/* Writes the 16 bytes of a finished lane, which is idle afterwards: direction, count and state 0. Its round words stay in
- * the record until it is opened again. Refusals: 10, 5, 7, 2. */
+/* Writes the 16 bytes of a finished lane, whose record is all zero afterwards. Refusals: 10, 5, 7, 2. */
 uint32_t gift_take(gift_lane *lanes, size_t lanes_len, uint32_t last, uint32_t lane, uint8_t *out, size_t out_len);
 
-/* Makes a lane idle as after a take, whatever it was. Refusals: 10, 5. */
+/* Makes a lane idle, its record all zero, whatever it was; closing an idle lane changes nothing. Refusals: 10, 5. */
 uint32_t gift_close(gift_lane *lanes, size_t lanes_len, uint32_t last, uint32_t lane);
 
 /* The layout above, held to the compiler's where it can say so. */

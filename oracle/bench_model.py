@@ -34,11 +34,11 @@ class Lane:
     """One record. Its words are those of a key, or, in a lane that is never served, any words at all."""
 
     def __init__(self):
-        self.key, self.words = bytes(16), None
         self.idle()
 
     def idle(self):
-        """What a take or a close leaves: the words stay."""
+        """What a take or a close leaves: nothing (2026-01). The words of the key of zeros are zeros."""
+        self.key, self.words = bytes(16), None
         self.phase = self.direction = self.count = self.block = 0
 
     def sound(self):
@@ -48,8 +48,8 @@ class Lane:
         return self.count in counts.get(self.phase, []) and self.direction in (0, 1)
 
     def idle_sound(self):
-        """What document 01 asks of a record whose phase is idle. This is the one place that says it."""
-        return self.count == 0 and self.direction in (0, 1)
+        """What document 02 asks of a record whose phase is idle (2026-01): that everything in it is zero. This is the one place that says it."""
+        return not any([self.direction, self.count, self.block, *(self.key if self.words is None else self.words)])
 
     def serve(self):
         masks = rounds_of(self.key)
@@ -298,7 +298,7 @@ class Script:
         self.fresh()
 
     def sound_benches(self):
-        """Sound records that no call made: idle with a direction and a state, running at every count, finished."""
+        """Sound records that no call made: idle, running at every count with any state, finished."""
         self.heading("sound records that no call made, put by the host")
         for n in range(40):
             if n % 4 == 0:
@@ -336,19 +336,33 @@ class Script:
         self.fresh()
 
     def idle_records(self):
-        """An idle record with one thing in it, words of no key or a direction or a state: what a call for another lane, an opening and a close make of it."""
-        self.heading("an idle record with anything in it, put by the host")
-        some = lambda places: [self.random.randrange(1, 2 ** 32) if i in places else 0 for i in range(80)]
-        changes = [("words", some(range(80))), ("words", some([0])), ("words", some([79])), ("direction", 1), ("block", 1), ("block", 1 << 127)]
+        """An idle record with one thing in it: one bit in its direction, its count, a word of its state or one of the eighty, or words of no key. Every call gives 10."""
+        self.heading("an idle record with one thing in it, put by the host")
+        bit = lambda width: 1 << self.random.randrange(width)
+        some = lambda places: [bit(32) if i in places else 0 for i in range(80)]
+        changes = [("words", some([i])) for i in range(80)] + [("words", some(range(80))), ("key", self.some(16))]
+        changes += [("block", 1 << 4 * self.random.randrange(32) + j) for j in range(4)] + [("direction", bit(8)), ("count", bit(8)), ("count", bit(8) << 8)]
         for k, change in enumerate(changes):
             n, other = k % LANES, (k + 1) % LANES
-            for call in [lambda: self.turn(8), lambda: self.open(n), lambda: self.close(n), lambda: self.take(other)]:
-                self.fresh()
-                self.open(other)
-                self.turn(8)
-                setattr(self.bench.lanes[n], *change)
-                self.write("put", {})
-                call()
+            calls = [lambda: self.turn(8)[0], lambda: self.open(n), lambda: self.close(n), lambda: self.take(other)]
+            self.fresh()
+            self.open(other)
+            self.turn(8)
+            setattr(self.bench.lanes[n], *change)
+            self.write("put", {})
+            assert calls[k // LANES % 4]() == 10
+        self.fresh()
+
+    def wiped_lanes(self):
+        """Every lane opened both ways, and taken from or closed after none, some and all of its turns: the bench is fresh again but for the lane last served."""
+        self.heading("lanes wiped by a take and by a close, at every count")
+        for n in range(LANES):
+            for count in range(9):
+                self.open(n, count % 2)
+                self.turn(count)
+                given = self.take(n) if count == 8 and n % 2 == 0 else self.close(n)
+                assert given == 0 and all(l.sound() and l.phase == IDLE for l in self.bench.lanes)
+        assert self.close(0) == 0
         self.fresh()
 
 
@@ -382,6 +396,7 @@ def main():
     script.by_chance()
     script.wide_counts()
     script.idle_records()
+    script.wiped_lanes()
     if sys.argv[1:] == ["--wrong"]:
         print("\n".join(wrong_cases(script.cases)))
         return

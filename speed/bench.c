@@ -56,7 +56,8 @@ static __typeof__(&gift_close) volatile close_call;
 static void real(void) { open_call = gift_open_lane, turn_call = gift_turn, take_call = gift_take, close_call = gift_close; }
 static void unreal(void) { open_call = no_open, turn_call = no_turn, take_call = no_take, close_call = no_close; }
 
-static void nothing(void) { code = no_close(lanes, GIFT_LANES, last, 0); }
+static __typeof__(&gift_close) volatile no_call = no_close;
+static void nothing(void) { code = no_call(lanes, GIFT_LANES, last, 0); }
 static void by_words(void) { code = gift_encrypt_by_words(words, GIFT_WORDS, block, sizeof block); }
 static void expand(void) { code = gift_expand(key, sizeof key, words, GIFT_WORDS); }
 
@@ -113,6 +114,7 @@ static uint64_t now(void)
 static uint64_t once(void (*call)(void))
 {
     memcpy(lanes, kept, sizeof lanes);
+    __builtin_ia32_mfence(); /* the copy is no part of the call */
     uint64_t t = now();
     call();
     return now() - t;
