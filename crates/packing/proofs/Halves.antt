@@ -14,8 +14,8 @@ use Rattle.published.specs.Bytes.{fromBytes, toBytes}
 use Rattle.published.specs.Packing.{word}
 use Rattle.primitives.specs.Packed.{stateOf}
 use Rattle.primitives.proofs.Blocks.{bit-word, word-lt, wordOf-stateOf}
-use Rattle.packing.specs.Inner.{halfAt, copied, moved, gatheredFrom, scatteredFrom, wordFrom, halfFrom}
-use Rattle.packing.proofs.Steps.{moved-lt, bit-moved}
+use Rattle.packing.specs.Inner.{halfAt, copied, reordered, gatheredFrom, scatteredFrom, wordFrom, halfFrom}
+use Rattle.packing.proofs.Steps.{reordered-lt, bit-reordered}
 
 -- half h of a block, the upper one being 1
 abbrev pub halfOf : ℕ → ℕ → ℕ
@@ -24,11 +24,11 @@ halfOf x h = digit (2 ^ 64) x h
 -- ---- pieces
 
 -- gathered, piece j of half h is piece h of word j
-pieces : (x h j : ℕ) → h < 2 → j < 4 → digit 65536 (moved gatheredFrom (halfOf x h)) j ≡ digit 65536 (word 128 x j) h
+pieces : (x h j : ℕ) → h < 2 → j < 4 → digit 65536 (reordered gatheredFrom (halfOf x h)) j ≡ digit 65536 (word 128 x j) h
 pieces x h j l m =
-    bit-ext 16 _ _ (digit-lt 65536 (lit< tt) (moved gatheredFrom (halfOf x h)) j) (digit-lt 65536 (lit< tt) (word 128 x j) h)
+    bit-ext 16 _ _ (digit-lt 65536 (lit< tt) (reordered gatheredFrom (halfOf x h)) j) (digit-lt 65536 (lit< tt) (word 128 x j) h)
     (λ i k.
-    bit-digit 16 (moved gatheredFrom (halfOf x h)) j i k ∙ bit-moved _ (halfOf x h) (16 * j + i) (omega arith)
+    bit-digit 16 (reordered gatheredFrom (halfOf x h)) j i k ∙ bit-reordered _ (halfOf x h) (16 * j + i) (omega arith)
     ∙ bit-digit 64 x h (gatheredFrom (16 * j + i)) (omega arith)
     ∙ ap (bit x) (place i k)
     ∙ sym (bit-digit 16 (word 128 x j) h i k ∙ bit-word x j (16 * h + i) (omega arith)))
@@ -40,18 +40,18 @@ two : (w : ℕ) → w < 2 ^ 32 → digit 65536 w 1 * 65536 + digit 65536 w 0 ≡
 unfolding digit
 two w h = omega arith
 
-pub words : (x j : ℕ) → j < 4 → wordFrom (moved gatheredFrom (halfOf x 1)) (moved gatheredFrom (halfOf x 0)) j ≡ word 128 x j
+pub words : (x j : ℕ) → j < 4 → wordFrom (reordered gatheredFrom (halfOf x 1)) (reordered gatheredFrom (halfOf x 0)) j ≡ word 128 x j
 words x j l =
     ap₂ (λ (a b : ℕ). a * 65536 + b) (pieces x 1 j (lit< tt) l) (pieces x 0 j (lit< tt) l) ∙ two (word 128 x j) (word-lt x j)
 
-pub scattered-half : (x h : ℕ) → h < 2 → moved scatteredFrom (halfFrom (stateOf x) h) ≡ halfOf x h
+pub scattered-half : (x h : ℕ) → h < 2 → reordered scatteredFrom (halfFrom (stateOf x) h) ≡ halfOf x h
 scattered-half x h l =
-    ap (moved scatteredFrom)
+    ap (reordered scatteredFrom)
     (number-cong 65536 4 _ _ (λ j m. ap (λ (w : ℕ). digit 65536 w h) (wordOf-stateOf x j m) ∙ sym (pieces x h j l m))
-    ∙ number-digit 65536 (lit< tt) 4 (moved gatheredFrom (halfOf x h)) (moved-lt _ (halfOf x h)))
-    ∙ bit-ext 64 _ _ (moved-lt _ (moved gatheredFrom (halfOf x h))) (digit-lt (2 ^ 64) (lit< tt) x h)
+    ∙ number-digit 65536 (lit< tt) 4 (reordered gatheredFrom (halfOf x h)) (reordered-lt _ (halfOf x h)))
+    ∙ bit-ext 64 _ _ (reordered-lt _ (reordered gatheredFrom (halfOf x h))) (digit-lt (2 ^ 64) (lit< tt) x h)
     (λ p m.
-    bit-moved _ (moved gatheredFrom (halfOf x h)) p m ∙ bit-moved _ (halfOf x h) (scatteredFrom p) (omega arith)
+    bit-reordered _ (reordered gatheredFrom (halfOf x h)) p m ∙ bit-reordered _ (halfOf x h) (scatteredFrom p) (omega arith)
     ∙ ap (bit (halfOf x h)) (agree 64 (λ p. gatheredFrom (scatteredFrom p)) (λ p. p) tt p m))
 
 -- ---- bytes

@@ -12,8 +12,8 @@ use Rattle.primitives.specs.Packed.{wordOf}
 -- ---- bits that move in a half
 
 -- the half whose bit p is bit f p of x
-unfoldable pub moved : (ℕ → ℕ) → ℕ → ℕ
-moved f x = ofBits 64 (λ p. bit x (f p))
+unfoldable pub reordered : (ℕ → ℕ) → ℕ → ℕ
+reordered f x = ofBits 64 (λ p. bit x (f p))
 
 -- figure k of a place, in binary
 abbrev pub figure : ℕ → ℕ → ℕ

@@ -9,13 +9,13 @@ ghost use lib.ListN.{length};
 ghost use Rattle.bits.specs.Digit.{digit};
 ghost use Rattle.published.specs.Bytes.{toBytes};
 ghost use Rattle.packing.specs.Packing.{packed, unpacked};
-ghost use Rattle.packing.specs.Inner.{fourAt, halfAt, copied, moved, crossed, rising, gatheredFrom, scatteredFrom, wordFrom, halfFrom};
+ghost use Rattle.packing.specs.Inner.{fourAt, halfAt, copied, reordered, crossed, rising, gatheredFrom, scatteredFrom, wordFrom, halfFrom};
 
 // The place of a bit in a half has six binary figures. This exchanges figures k and k + 2 of every place: the mask has the places where figure k is 1 and figure k + 2 is 0,
 // a bit there changes places with the one 3 * 2^k above it, and where the two figures are equal nothing moves.
 fn cross(x: u64, k: u32, mask: u64) -> u64
     requires { ⌜ (k < 4) × (mask ≡ rising k) ⌝ }
-    ensures { λ r. ⌜ r ≡ moved (crossed k) x ⌝ }
+    ensures { λ r. ⌜ r ≡ reordered (crossed k) x ⌝ }
 {
     let n: u32 = 3 << k;
     let t = (x ^ (x >> n)) & mask;
@@ -25,7 +25,7 @@ fn cross(x: u64, k: u32, mask: u64) -> u64
 // From 4i + j to 16j + i: of a place's figures, 0 and 1 are j and the four above them are i. Figure 0 climbs to 2 and on to 4,
 // figure 1 to 3 and on to 5, and each figure of i is passed once and comes down by two.
 fn gather(x: u64) -> u64
-    ensures { λ r. ⌜ r ≡ moved gatheredFrom x ⌝ }
+    ensures { λ r. ⌜ r ≡ reordered gatheredFrom x ⌝ }
 {
     let x0 = cross(x, 0, 0x0a0a0a0a0a0a0a0a);
     let x1 = cross(x0, 1, 0x00cc00cc00cc00cc);
@@ -35,7 +35,7 @@ fn gather(x: u64) -> u64
 
 // Each step undoes itself: the same four, the last first, go back.
 fn scatter(x: u64) -> u64
-    ensures { λ r. ⌜ r ≡ moved scatteredFrom x ⌝ }
+    ensures { λ r. ⌜ r ≡ reordered scatteredFrom x ⌝ }
 {
     let x3 = cross(x, 3, 0x00000000ff00ff00);
     let x2 = cross(x3, 2, 0x0000f0f00000f0f0);

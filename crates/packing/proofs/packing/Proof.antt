@@ -8,7 +8,7 @@ use borrow.Author.Needs.{needs}
 use Rattle.published.specs.Bytes.{fromBytes}
 use Rattle.published.specs.Packing.{word}
 use Rattle.primitives.specs.Packed.{stateOf}
-use Rattle.packing.specs.Inner.{moved, gatheredFrom, wordFrom}
+use Rattle.packing.specs.Inner.{reordered, gatheredFrom, wordFrom}
 use Rattle.packing.proofs.Halves.{words, reads}
 use Rattle.packing.proofs.Inverse.{packed-block, packed-other}
 use Rattle.packing.proofs.packing.Statement.{statement}
@@ -23,8 +23,8 @@ returns c =
     let bs : List ℕ = h .before .before .before .before .args .input .now in
     let len : length bs ≡ 16 = h .before .before .if1 .taken in
     let halves = reads bs (h .before .half-at .result) (l .before .half-at2 .result) len (h .before .half-at .ensures) (l .before .half-at2 .ensures) (search needs) (search needs) in
-    let high = h .gather .ensures ∙ ap (moved gatheredFrom) (halves .0) in
-    let low = l .gather2 .ensures ∙ ap (moved gatheredFrom) (halves .1) in
+    let high = h .gather .ensures ∙ ap (reordered gatheredFrom) (halves .0) in
+    let low = l .gather2 .ensures ∙ ap (reordered gatheredFrom) (halves .1) in
     let is-word : (j : ℕ) → T (ltb j 4) → wordFrom (h .gather .result) (l .gather2 .result) j ≡ word 128 (fromBytes bs) j =
     λ j t. ap₂ (λ (a b : ℕ). wordFrom a b j) high low ∙ words (fromBytes bs) j (lit< t) in
     (λ i.

@@ -9,7 +9,7 @@ use Rattle.published.specs.Bytes.{toBytes}
 use Rattle.primitives.specs.declared.State.{State}
 use Rattle.primitives.specs.Packed.{blockOf, Words}
 use Rattle.primitives.proofs.Blocks.{stateOf-blockOf}
-use Rattle.packing.specs.Inner.{copied, moved, scatteredFrom, halfFrom}
+use Rattle.packing.specs.Inner.{copied, reordered, scatteredFrom, halfFrom}
 use Rattle.packing.proofs.Halves.{halfOf, scattered-half, puts}
 use Rattle.packing.proofs.Inverse.{unpacked-block, unpacked-other}
 use Rattle.packing.proofs.unpacking.Statement.{statement}
@@ -27,10 +27,10 @@ returns c =
     let s : State = start .args .state in
     let out : List ℕ = start .args .output .now in
     let len : length out ≡ 16 = test .if1 .taken in
-    let is-half : (h : ℕ) → T (ltb h 2) → moved scatteredFrom (halfFrom s h) ≡ halfOf (blockOf s) h =
-    λ h t. ap (λ (s : State). moved scatteredFrom (halfFrom s h)) (sym (stateOf-blockOf s (words start))) ∙ scattered-half (blockOf s) h (lit< t) in
-    let bytes-high = high .before .bytes .ensures ∙ ap (toBytes 8) (high .before .before .scatter .ensures ∙ ap (moved scatteredFrom) (high .before .before .before .half .ensures) ∙ is-half 1 tt) in
-    let bytes-low = low .before .bytes2 .ensures ∙ ap (toBytes 8) (low .before .before .scatter2 .ensures ∙ ap (moved scatteredFrom) (low .before .before .before .half2 .ensures) ∙ is-half 0 tt) in
+    let is-half : (h : ℕ) → T (ltb h 2) → reordered scatteredFrom (halfFrom s h) ≡ halfOf (blockOf s) h =
+    λ h t. ap (λ (s : State). reordered scatteredFrom (halfFrom s h)) (sym (stateOf-blockOf s (words start))) ∙ scattered-half (blockOf s) h (lit< t) in
+    let bytes-high = high .before .bytes .ensures ∙ ap (toBytes 8) (high .before .before .scatter .ensures ∙ ap (reordered scatteredFrom) (high .before .before .before .half .ensures) ∙ is-half 1 tt) in
+    let bytes-low = low .before .bytes2 .ensures ∙ ap (toBytes 8) (low .before .before .scatter2 .ensures ∙ ap (reordered scatteredFrom) (low .before .before .before .half2 .ensures) ∙ is-half 0 tt) in
     low .put2 .ensures
     ∙ ap₂ (λ (l new : List ℕ). copied 8 l 8 new) (high .put .ensures ∙ ap (copied 8 out 0) bytes-high) bytes-low
     ∙ puts (blockOf s) out len
