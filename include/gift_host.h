@@ -2,8 +2,8 @@
  *
  * Every function is proved to answer as said here for all lengths, numbers, bytes and records. There is nothing to set up
  * or tear down, and nothing is kept between calls: all memory is the host's, and is lent for the length of one call. Calls
- * on different memory may run at the same time. The library takes no heap and some one KiB of stack, and calls nothing
- * but memcpy and memset.
+ * on different memory may run at the same time. The library takes no heap and some one KiB of stack (18 KiB where the plain
+ * engine is called), and calls nothing but memcpy and memset.
  *
  * A call answers 0 (GIFT_DONE) or the number of a refusal. Refusals are tried in the order given with each function, and
  * the first that applies is the one given. After a refusal everything lent is as it was before the call.
@@ -59,6 +59,13 @@ uint32_t gift_host_edition(void);
 /* By a key. Refusals: 1, 2. */
 uint32_t gift_encrypt_by_key(const uint8_t *key, size_t key_len, uint8_t *block, size_t block_len);
 uint32_t gift_decrypt_by_key(const uint8_t *key, size_t key_len, uint8_t *block, size_t block_len);
+
+/* The same by the plain engine, which does document 01's steps one by one on 32 nibbles: for an auditor to read, and for a host
+ * that holds one engine to the other. The two are proved to give the same number and bytes, whatever is lent. It takes some 28
+ * times as long as gift_encrypt_by_key, and 35 times as long as gift_decrypt_by_key (one block, x86-64, the kit's clang 22 at
+ * -O3, by speed/bench). Refusals: 1, 2. */
+uint32_t gift_plain_encrypt_by_key(const uint8_t *key, size_t key_len, uint8_t *block, size_t block_len);
+uint32_t gift_plain_decrypt_by_key(const uint8_t *key, size_t key_len, uint8_t *block, size_t block_len);
 
 /* By 80 round words: those of gift_expand, which saves expanding the key for every block, or any others. Refusals: 4, 2. */
 uint32_t gift_encrypt_by_words(const uint32_t *words, size_t words_len, uint8_t *block, size_t block_len);

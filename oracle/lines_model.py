@@ -5,7 +5,7 @@ import sys
 
 from cipher_model import decrypted, encrypted, number, packed
 
-GOOD = re.compile(rb"([EDRP]) ([0-9a-f]{32}) ([0-9a-f]{32})")
+GOOD = re.compile(rb"([EDRPFG]) ([0-9a-f]{32}) ([0-9a-f]{32})")
 
 
 def answer(n, line):
@@ -15,7 +15,7 @@ def answer(n, line):
     letter, key, block = good[1], bytes.fromhex(good[2].decode()), bytes.fromhex(good[3].decode())
     if letter == b"P":
         return " ".join(f"{w:08x}" for w in packed(number(block)))
-    found = {b"E": encrypted, b"D": decrypted, b"R": lambda k, b: encrypted(k, b, 1)}[letter](key, block)
+    found = {b"E": encrypted, b"F": encrypted, b"D": decrypted, b"G": decrypted, b"R": lambda k, b: encrypted(k, b, 1)}[letter](key, block)
     return found.hex()
 
 

@@ -119,12 +119,13 @@ static uint8_t *expected(room *r)
 
 enum {
     ENCRYPT_BY_KEY, DECRYPT_BY_KEY, ENCRYPT_BY_WORDS, DECRYPT_BY_WORDS, EXPAND, ENCRYPT_BLOCKS,
-    DECRYPT_BLOCKS, OPEN_LANE, TURN, TAKE, CLOSE, KINDS
+    DECRYPT_BLOCKS, OPEN_LANE, TURN, TAKE, CLOSE, PLAIN_ENCRYPT, PLAIN_DECRYPT, KINDS
 };
 
 static const char *const names[KINDS] = {
     "gift_encrypt_by_key", "gift_decrypt_by_key", "gift_encrypt_by_words", "gift_decrypt_by_words", "gift_expand", "gift_encrypt_blocks",
     "gift_decrypt_blocks", "gift_open_lane", "gift_turn", "gift_take", "gift_close",
+    "gift_plain_encrypt_by_key", "gift_plain_decrypt_by_key",
 };
 
 static unsigned calls, differences, given[KINDS][11];
@@ -151,7 +152,7 @@ static void hold_room(unsigned kind, const room *r)
 
 static void hold(unsigned kind, uint32_t number, uint32_t must)
 {
-    calls++;
+    calls += kind < PLAIN_ENCRYPT; /* the plain engine's are made beside calls of the walk */
     given[kind][must]++;
     if (number != must && differs(kind))
         printf("the number is %u and must be %u\n", number, must);
@@ -163,16 +164,25 @@ static void hold(unsigned kind, uint32_t number, uint32_t must)
 
 static room keys, blocks, outputs, words;
 
+/* By either engine, each on the same memory. */
 static void by_key(unsigned direction)
 {
+    static uint8_t before[ROOM];
     uint32_t number, must;
     lend(&keys, "key", length(16), 1);
     lend(&blocks, "block", length(16), 1);
+    memcpy(before, blocks.memory, blocks.all);
     must = key_number(keys.length, blocks.length);
     if (must == 0)
         model_by_key(direction, expected(&keys), expected(&blocks), expected(&blocks));
     number = (direction == 0 ? gift_encrypt_by_key : gift_decrypt_by_key)(part(&keys), keys.length, part(&blocks), blocks.length);
     hold(direction == 0 ? ENCRYPT_BY_KEY : DECRYPT_BY_KEY, number, must);
+
+    memcpy(blocks.memory, before, blocks.all);
+    lent[lent_count++] = &keys;
+    lent[lent_count++] = &blocks;
+    number = (direction == 0 ? gift_plain_encrypt_by_key : gift_plain_decrypt_by_key)(part(&keys), keys.length, part(&blocks), blocks.length);
+    hold(direction == 0 ? PLAIN_ENCRYPT : PLAIN_DECRYPT, number, must);
 }
 
 static void by_words(unsigned direction)
@@ -435,7 +445,7 @@ int main(void)
     printf("%-22s", "number given back:");
     for (unsigned number = 0; number <= 10; number++)
         printf("%7u", number);
-    for (unsigned kind = 0; kind < KINDS; kind++) {
+    for (unsigned kind = 0; kind < PLAIN_ENCRYPT; kind++) {
         printf("\n%-22s", names[kind]);
         for (unsigned number = 0; number <= 10; number++)
             printf("%7u", given[kind][number]);
@@ -445,6 +455,8 @@ int main(void)
     printf("%u sound records were the host's; %u calls met an unsound one, %u a slice of another length, %u a last served number that is no lane's\n", made_by_host,
            unsound, slices, lasts);
     printf("%u calls met an idle record with one bit set, each bit of each lane's record before each of the four calls\n", one_bits);
+    printf("%u of the calls by a key were made by the plain engine, too, on the same memory\n",
+           given[PLAIN_ENCRYPT][0] + given[PLAIN_ENCRYPT][1] + given[PLAIN_ENCRYPT][2] + given[PLAIN_DECRYPT][0] + given[PLAIN_DECRYPT][1] + given[PLAIN_DECRYPT][2]);
     printf("%u calls, %u differences\n", calls, differences);
     return differences > 0;
 }

@@ -51,6 +51,8 @@ fn lengths_of_one_block() {
             };
             hold(&block, must, |b| calls::encrypt_by_key(&key, b));
             hold(&block, must, |b| calls::decrypt_by_key(&key, b));
+            hold(&block, must, |b| calls::plain_encrypt_by_key(&key, b));
+            hold(&block, must, |b| calls::plain_decrypt_by_key(&key, b));
         }
         for words in WORD_COUNTS.map(|n| vec![7; n]) {
             let must = match (words.len(), block.len()) {
