@@ -190,7 +190,14 @@ pub fn fresh() -> Bench
     }
 }
 
-pub fn open_lane(b: Bench, lane: u32, owner: u16, direction: u32, key: &[u8], block: &[u8]) -> Answer
+pub fn open_lane(
+    b: Bench,
+    lane: u32,
+    owner: u16,
+    direction: u32,
+    key: &[u8],
+    block: &[u8],
+) -> Answer
     ensures { λ r. ⌜ r ≡ openOf b lane owner direction (now (key .entry)) (now (block .entry)) ⌝ }
 {
     let code = open_code(

@@ -6,7 +6,7 @@ use mathlib.Core.List.{List, [], _∷_, _++_, map}
 use Prim.Native.Nat.{ℕ, zero, suc, _+_, _-_, _*_, _%_}
 use lib.Dec.{eqb}
 use lib.ListN.{length, take, replicate}
-use Rattle.lane.specs.Record.{idleLane, everything, allZero, soundCount, soundLane, opened, served, lacks}
+use Rattle.lane.specs.Record.{idleLane, everything, allZero, soundCount, soundLane, admits, opened, served, lacks}
 use Rattle.bench.specs.declared.Bench.{Bench}
 use Rattle.bench.specs.Turning.{laneCount, runs, after, seek, chosen, anyRuns, turned, turnedBy, servedBy, total}
 use Rattle.bench.specs.Orders.{openCode, turnCode, takeCode, closeCode}
@@ -17,12 +17,19 @@ use Rattle.bench_history.specs.Promises.{Opening, Accepted, Unclosed, Ke
 bytes : ℕ → List ℕ
 bytes n = replicate n 0
 
+-- a guest, and another whose number has the same low byte
+guest : ℕ
+guest = 1
+
+other : ℕ
+other = 257
+
 -- lane i opened to encrypt, and to decrypt
 encrypts : ℕ → Call
-encrypts i = opening i 0 (bytes 16) (bytes 16)
+encrypts i = opening i guest 0 (bytes 16) (bytes 16)
 
 decrypts : ℕ → Call
-decrypts i = opening i 1 (bytes 16) (bytes 16)
+decrypts i = opening i guest 1 (bytes 16) (bytes 16)
 
 -- the last lane, and the first k lanes opened in order, one way and the other in turn
 last : ℕ
@@ -58,25 +65,25 @@ examples :
     × (tells (run freshBench (openAll laneCount)) (turning 1024) ≡ laneCount * 8)
     × (tells freshBench (turning 1024) ≡ 0)
     × (numbers freshBench (turning 1024 ∷ turning 1025 ∷ []) ≡ 0 ∷ 8 ∷ [])
-    × (log freshBench (encrypts 0 ∷ encrypts last ∷ turning 2 ∷ closing 0 ∷ encrypts 0 ∷ turning 3 ∷ []) ≡ 0 ∷ last ∷ 0 ∷ last ∷ 0 ∷ [])
+    × (log freshBench (encrypts 0 ∷ encrypts last ∷ turning 2 ∷ closing 0 guest ∷ encrypts 0 ∷ turning 3 ∷ []) ≡ 0 ∷ last ∷ 0 ∷ last ∷ 0 ∷ [])
     × (log freshBench (encrypts 1 ∷ turning 1 ∷ encrypts 0 ∷ encrypts 2 ∷ turning 3 ∷ []) ≡ 1 ∷ 2 ∷ 0 ∷ 1 ∷ [])
 unfolding
-    bytes encrypts decrypts last openAll phases counts numbers benchWith soundCount soundLane everything allZero idleLane opened served laneCount runs after seek chosen anyRuns turned turnedBy servedBy lacks total
+    bytes guest other encrypts decrypts last openAll phases counts numbers benchWith soundCount soundLane admits everything allZero idleLane opened served laneCount runs after seek chosen anyRuns turned turnedBy servedBy lacks total
     freshBench allSound soundBench put answered openCode openOf turnCode turnOf takeCode takeOf closeCode closeOf answerTo asks serves run log
 examples = (refl, refl, refl, refl, refl, refl, refl, refl, refl, refl, refl)
 
 -- the numbers of each call in their order; the last lane accepted, and the next refused; the last lane as last served, and the next; other numbers of records
 refusals :
-    (numbers freshBench (encrypts 1 ∷ turning 7 ∷ taking 1 (bytes 16) ∷ turning 1 ∷ taking 1 (bytes 17) ∷ taking 1 (bytes 16) ∷ taking 1 (bytes 16) ∷ []) ≡ 0 ∷ 0 ∷ 7 ∷ 0 ∷ 2 ∷ 0 ∷ 7 ∷ [])
-    × (numbers freshBench (encrypts laneCount ∷ encrypts last ∷ encrypts last ∷ opening 1 2 (bytes 15) (bytes 15) ∷ opening 1 1 (bytes 15) (bytes 15) ∷ opening 1 1 (bytes 16) (bytes 15) ∷ []) ≡ 5 ∷ 0 ∷ 6 ∷ 9 ∷ 1 ∷ 2 ∷ [])
-    × (numbers freshBench (taking laneCount (bytes 16) ∷ closing laneCount ∷ closing last ∷ []) ≡ 5 ∷ 5 ∷ 0 ∷ [])
-    × (numbers (benchWith laneCount last) (turning 1 ∷ closing 0 ∷ []) ≡ 0 ∷ 0 ∷ [])
-    × (numbers (benchWith laneCount laneCount) (encrypts laneCount ∷ turning 1025 ∷ taking laneCount [] ∷ closing 0 ∷ []) ≡ 10 ∷ 10 ∷ 10 ∷ 10 ∷ [])
-    × (numbers (benchWith last 0) (turning 1 ∷ closing 0 ∷ []) ≡ 10 ∷ 10 ∷ [])
-    × (numbers (benchWith (laneCount + 1) 0) (turning 1 ∷ closing 0 ∷ []) ≡ 10 ∷ 10 ∷ [])
-    × (numbers (benchWith (laneCount - 12) 0) (turning 1 ∷ closing 0 ∷ []) ≡ 10 ∷ 10 ∷ [])
+    (numbers freshBench (encrypts 1 ∷ turning 7 ∷ taking 1 guest (bytes 16) ∷ turning 1 ∷ taking 1 guest (bytes 17) ∷ taking 1 guest (bytes 16) ∷ taking 1 guest (bytes 16) ∷ []) ≡ 0 ∷ 0 ∷ 7 ∷ 0 ∷ 2 ∷ 0 ∷ 7 ∷ [])
+    × (numbers freshBench (encrypts laneCount ∷ encrypts last ∷ encrypts last ∷ opening 1 guest 2 (bytes 15) (bytes 15) ∷ opening 1 guest 1 (bytes 15) (bytes 15) ∷ opening 1 guest 1 (bytes 16) (bytes 15) ∷ []) ≡ 5 ∷ 0 ∷ 6 ∷ 9 ∷ 1 ∷ 2 ∷ [])
+    × (numbers freshBench (taking laneCount guest (bytes 16) ∷ closing laneCount guest ∷ closing last guest ∷ []) ≡ 5 ∷ 5 ∷ 0 ∷ [])
+    × (numbers (benchWith laneCount last) (turning 1 ∷ closing 0 guest ∷ []) ≡ 0 ∷ 0 ∷ [])
+    × (numbers (benchWith laneCount laneCount) (encrypts laneCount ∷ turning 1025 ∷ taking laneCount guest [] ∷ closing 0 guest ∷ []) ≡ 10 ∷ 10 ∷ 10 ∷ 10 ∷ [])
+    × (numbers (benchWith last 0) (turning 1 ∷ closing 0 guest ∷ []) ≡ 10 ∷ 10 ∷ [])
+    × (numbers (benchWith (laneCount + 1) 0) (turning 1 ∷ closing 0 guest ∷ []) ≡ 10 ∷ 10 ∷ [])
+    × (numbers (benchWith (laneCount - 12) 0) (turning 1 ∷ closing 0 guest ∷ []) ≡ 10 ∷ 10 ∷ [])
 unfolding
-    bytes encrypts decrypts last openAll phases counts numbers benchWith soundCount soundLane everything allZero idleLane opened served laneCount runs after seek chosen anyRuns turned turnedBy servedBy lacks total
+    bytes guest other encrypts decrypts last openAll phases counts numbers benchWith soundCount soundLane admits everything allZero idleLane opened served laneCount runs after seek chosen anyRuns turned turnedBy servedBy lacks total
     freshBench allSound soundBench put answered openCode openOf turnCode turnOf takeCode takeOf closeCode closeOf answerTo asks serves run log
 refusals = (refl, refl, refl, refl, refl, refl, refl, refl)
 
@@ -86,15 +93,16 @@ latest =
     record {
       before = openAll last ++ encrypts 2 ∷ [];
       lane = last;
+      owner = guest;
       direction = 1;
       key = bytes 16;
       block = bytes 16;
-      since = taking last (bytes 16) ∷ turning 1025 ∷ closing laneCount ∷ turning (laneCount * 8 - 1) ∷ decrypts last ∷ turning 1 ∷ [];
+      since = taking last guest (bytes 16) ∷ turning 1025 ∷ closing laneCount guest ∷ turning (laneCount * 8 - 1) ∷ decrypts last ∷ turning 1 ∷ [];
     }
 
 reached-by-one : Accepted latest × Unclosed latest × Kept latest × (length (made latest) ≡ laneCount * 8) × (times last (take (laneCount * 8 - 1) (made latest)) ≡ 7) × (own latest ≡ 8)
 unfolding
-    bytes encrypts decrypts last openAll soundCount soundLane everything allZero idleLane opened served laneCount runs after seek chosen anyRuns turned turnedBy servedBy lacks total
+    bytes guest other encrypts decrypts last openAll soundCount soundLane admits everything allZero idleLane opened served laneCount runs after seek chosen anyRuns turned turnedBy servedBy lacks total
     freshBench allSound soundBench put answered openCode openOf turnCode turnOf takeCode takeOf closeCode closeOf answerTo asks serves run log
     latest times never closes releases
 reached-by-one = (refl, refl, refl, refl, refl, refl)

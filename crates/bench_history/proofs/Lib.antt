@@ -5,6 +5,7 @@ pub mod Standing
 pub mod Waiting
 pub mod Quintuples
 pub mod Effects
+pub mod Belongs
 pub mod Demand
 pub mod OneOutcome
 mod Examples

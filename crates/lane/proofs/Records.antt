@@ -20,7 +20,7 @@ use Rattle.packing.proofs.Inverse.{packed-block}
 use Rattle.key_schedule.specs.Expand.{expanded}
 use Rattle.gift128.specs.Calls.{newCode}
 use Rattle.lane.specs.declared.Lane.{Lane}
-use Rattle.lane.specs.Record.{running, finished, idle, idleLane, everything, allZero, soundCount, soundLane, opened, advanced, served, lacks, yielded}
+use Rattle.lane.specs.Record.{running, finished, idle, idleLane, everything, allZero, soundCount, soundLane, admits, opened, advanced, served, lacks, yielded}
 use Rattle.lane.proofs.Zero.{idle-is-zero}
 
 -- what makes a busy record sound
@@ -59,6 +59,15 @@ idle-is l e =
 pub idle-sound : soundLane idleLane ≡ true
 unfolding idleLane
 idle-sound = idle-is idleLane refl ∙ idle-is-zero
+
+-- whom a lane admits: anyone while it is idle, and then its owner
+pub idle-admits : (l : Lane) (caller : ℕ) → l .phase ≡ idle → admits l caller ≡ true
+unfolding admits
+idle-admits l caller e = rw e
+
+pub busy-admits : (l : Lane) (caller : ℕ) → l .phase ≢ idle → admits l caller ≡ eqb (l .owner) caller
+unfolding admits
+busy-admits l caller busy = rw (ne-eqb (l .phase) 0 busy)
 
 -- a lane with a running record that is sound has turns left
 pub running-count : (l : Lane) → soundLane l ≡ true → l .phase ≡ running → l .count < 8
@@ -130,6 +139,11 @@ pub served-by : (l : Lane) (phase : ℕ) (state : State) → l .count < 8 → ph
 unfolding served
 served-by l phase state h p s = rw (p, s) (sym (cond-true (ltb (l .count) 8) (next l) l (lt-ltb (l .count) 8 h)))
 
+-- a turn leaves a lane its owner
+pub served-owner : (l : Lane) → served l .owner ≡ l .owner
+unfolding served
+served-owner l = cond-either (λ (k : Lane). k .owner ≡ l .owner) (ltb (l .count) 8) (next l) l (λ e. refl) (λ e. refl)
+
 module _ (l : Lane) (sound : soundLane l ≡ true) (runs : l .phase ≡ running) where
   pub served-next : served l ≡ next l
   unfolding served
@@ -148,9 +162,9 @@ module _ (l : Lane) (sound : soundLane l ≡ true) (runs : l .phase ≡ running)
   served-sound =
       let t : Tidy l = tidy l sound (λ z. eqb-false 1 0 refl (sym runs ∙ z)) in
       let counted : soundCount (next l .phase) (l .count + 1) ≡ true =
-          cond-either (λ (p : ℕ). soundCount p (l .count + 1) ≡ true) (eqb (l .count + 1) 8) finished running
-          (λ e. e)
-          (λ e. le-leb (l .count + 1) 7 (omega (arith, running-count l sound runs, eqb-false (l .count + 1) 8 e))) in
+      cond-either (λ (p : ℕ). soundCount p (l .count + 1) ≡ true) (eqb (l .count + 1) 8) finished running
+      (λ e. e)
+      (λ e. le-leb (l .count + 1) 7 (omega (arith, running-count l sound runs, eqb-false (l .count + 1) 8 e))) in
       let more : Tidy (next l) = record { owned = t .owned; directed = t .directed; counted = counted } in
       tidy-sound (served l) served-busy (rw served-next more)
 
