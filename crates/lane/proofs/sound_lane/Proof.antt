@@ -14,8 +14,8 @@ returns c =
 
 returns-2 : tie.Need-returns-2
 returns-2 c =
-    let l = c .before .before .args .l in
-    sym (busy-is l (c .before .if1 .left) ∙ (rw (c .if2 .taken)))
+    let a = c .before .before .args in
+    sym (busy-is (a .l) (c .before .if1 .left) ∙ (rw (c .if2 .taken)))
 
 returns-3 : tie.Need-returns-3
 returns-3 c =
