@@ -185,7 +185,7 @@ module _ (o : Opening) (ok : Accepted o) where
             at-most = at-most;
             stands = here;
             early = λ h. early-take (end o) end-sound (o .lane) (did .lane-lt) (o .owner) (owner-admitted (o .owner) (laneAt (end o .lanes) (o .lane)) end-busy)
-            (λ p. eqb-false 1 2 refl (sym (runs-early h) ∙ p));
+                (λ p. eqb-false 1 2 refl (sym (runs-early h) ∙ p));
             ready = λ h out e. (ready-code out h e, ready-bytes out h e);
             only-ready = taken-own;
             others = shut;

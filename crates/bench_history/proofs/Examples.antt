@@ -93,11 +93,11 @@ refusals = (refl, refl, refl, refl, refl, refl, refl, refl)
 -- low byte is 0, and in the orders' places
 owners :
     (numbers freshBench (encrypts 1 ∷ turning 8 ∷ taking 1 other (bytes 16) ∷ taking 1 0 (bytes 16) ∷ taking 1 other (bytes 15) ∷ closing 1 other ∷ closing 1 0 ∷ taking 1 guest (bytes 15) ∷ taking 1 guest (bytes 16) ∷ [])
-        ≡ 0 ∷ 0 ∷ 11 ∷ 11 ∷ 11 ∷ 11 ∷ 11 ∷ 2 ∷ 0 ∷ [])
+    ≡ 0 ∷ 0 ∷ 11 ∷ 11 ∷ 11 ∷ 11 ∷ 11 ∷ 2 ∷ 0 ∷ [])
     × (numbers freshBench (encrypts 1 ∷ turning 7 ∷ taking 1 other (bytes 16) ∷ closing 1 other ∷ closing 1 0 ∷ taking 1 guest (bytes 16) ∷ closing 1 guest ∷ []) ≡ 0 ∷ 0 ∷ 11 ∷ 11 ∷ 11 ∷ 7 ∷ 0 ∷ [])
     × (numbers freshBench (taking 1 guest [] ∷ taking 1 0 [] ∷ closing 1 guest ∷ closing 1 0 ∷ taking laneCount 0 [] ∷ closing laneCount 0 ∷ []) ≡ 7 ∷ 7 ∷ 0 ∷ 0 ∷ 5 ∷ 5 ∷ [])
     × (numbers freshBench (opening 1 256 0 (bytes 16) (bytes 16) ∷ opening 2 512 0 (bytes 16) (bytes 16) ∷ opening 1 0 2 [] [] ∷ opening 3 0 2 [] [] ∷ opening laneCount 0 2 [] [] ∷ closing 1 512 ∷ closing 1 256 ∷ [])
-        ≡ 0 ∷ 0 ∷ 6 ∷ 11 ∷ 5 ∷ 11 ∷ 0 ∷ [])
+    ≡ 0 ∷ 0 ∷ 6 ∷ 11 ∷ 5 ∷ 11 ∷ 0 ∷ [])
     × (map (λ l. l .owner) (take 3 (run freshBench (encrypts 1 ∷ opening 2 512 1 (bytes 16) (bytes 16) ∷ turning 9 ∷ taking 1 other (bytes 16) ∷ []) .lanes)) ≡ 0 ∷ guest ∷ 512 ∷ [])
     × (map (λ l. l .owner) (take 3 (run freshBench (encrypts 1 ∷ opening 2 512 1 (bytes 16) (bytes 16) ∷ closing 1 guest ∷ closing 2 guest ∷ []) .lanes)) ≡ 0 ∷ 0 ∷ 512 ∷ [])
 unfolding
@@ -110,7 +110,7 @@ owners = (refl, refl, refl, refl, refl, refl)
 twin : ℕ → List Call
 twin x =
     encrypts 0 ∷ opening 1 other 1 (replicate 16 x) (replicate 16 x) ∷ opening 1 other 1 (replicate 16 x) (replicate 15 x) ∷ turning 16
-        ∷ taking 0 other (replicate 16 x) ∷ taking 0 guest (bytes 16) ∷ []
+    ∷ taking 0 other (replicate 16 x) ∷ taking 0 guest (bytes 16) ∷ []
 
 twins : (x y : ℕ) → Pairwise guest (twin x) (twin y)
 unfolding twin guest other
