@@ -39,8 +39,8 @@ takeCode sound lane admitted phase out =
 
 -- Closing: 10, 5, 11.
 unfoldable pub closeCode : Bool → (lane : ℕ) → Bool → ℕ
-closeCode sound lane admitted =
+closeCode sound lane admits =
     unless sound BAD_BENCH
     (unless (ltb lane laneCount) BAD_LANE
-    (unless admitted NOT_THE_OWNER
+    (unless admits NOT_THE_OWNER
     DONE))

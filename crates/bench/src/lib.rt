@@ -247,14 +247,10 @@ pub fn turn(b: Bench, asked: u32) -> Answer
 pub fn take(b: Bench, lane: u32, owner: u16, out: &mut [u8]) -> Answer
     ensures { λ r. ⌜ (r ≡ takeOf b lane owner (now (out .entry))) × (now (out .exit) ≡ takenBytes b lane owner (now (out .entry))) ⌝ }
 {
-    let code = take_code(
-        sound(b),
-        lane,
-        admits_at(b, lane, owner),
-        phase_at(b, lane),
-        out.len(),
-    );
+    let admitted = admits_at(b, lane, owner);
+    let code = take_code(sound(b), lane, admitted, phase_at(b, lane), out.len());
     if code != DONE {
+        // the buffer stays as it was
         return Answer {
             code,
             made: 0,
@@ -277,6 +273,7 @@ pub fn close(b: Bench, lane: u32, owner: u16) -> Answer
 {
     let code = close_code(sound(b), lane, admits_at(b, lane, owner));
     if code != DONE {
+        // the lane stays as it was
         return Answer {
             code,
             made: 0,
