@@ -1,4 +1,4 @@
-/* Document 01 as plain C: the published cipher, the bench, and the number that each call gives back. What abuse.c and twins.c hold the library to.
+/* Document 01 as plain C: the published cipher, the bench, and the number that each call gives back. What abuse.c holds the library to.
  * It shares nothing with the library but the form of a lane record, and writes document 01's numbers as numbers. */
 #include <stddef.h>
 #include <stdint.h>
