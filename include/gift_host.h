@@ -104,10 +104,10 @@ uint32_t gift_decrypt_blocks(const uint8_t *key, size_t key_len, const uint8_t *
  * take buffers. (The records themselves are the host's, and are not to be shown to guests.)
  *
  * A record is sound if it is all zero, which is idle, or if its owner is not 0, its direction is 0 or 1 and it is running
- * with count 0 to 7 or finished with count 8. Every call looks at all of every record and refuses with 10 if one is not sound; none repairs it.
- * A take and a close leave the record all zero: no round word or block stays in it. What a call itself had on the stack or in
- * registers is not wiped: the round words of a lane that was opened or turned may lie below the caller's frame until
- * something else is written there.
+ * with count 0 to 7 or finished with count 8. Every call looks at all of every record and refuses with 10 if one is not
+ * sound; none repairs it. A take and a close leave the record all zero: no round word or block stays in it. What a call
+ * itself had on the stack or in registers is not wiped: the round words of a lane that was opened or turned may lie below
+ * the caller's frame until something else is written there.
  */
 
 #define GIFT_LANES 16          /* records of a bench */

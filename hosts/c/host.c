@@ -117,8 +117,10 @@ static void meddle(uint32_t guest, uint32_t other)
     uint8_t setting[GIFT_BLOCK_SIZE] = {0};
     uint32_t take = gift_take(lanes, GIFT_LANES, last, other, owner(guest), setting, sizeof setting);
     uint32_t close = gift_close(lanes, GIFT_LANES, last, other, owner(guest));
-    if (take != GIFT_NOT_THE_OWNER || close != GIFT_NOT_THE_OWNER)
-        refused("what guest meddles with", take);
+    if (take != GIFT_NOT_THE_OWNER || close != GIFT_NOT_THE_OWNER) {
+        printf("guest %u is let into guest %u's lane, numbers %u and %u\n", guest, other, take, close);
+        exit(1);
+    }
     printf("  guest %u would take guest %u's setting, and close its lane: refused, numbers %u and %u\n", guest, other, take, close);
 }
 

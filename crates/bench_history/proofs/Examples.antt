@@ -14,7 +14,7 @@ use Rattle.bench.specs.Orders.{openCode, turnCode, takeCode, closeCode}
 use Rattle.bench.specs.Calls.{freshBench, allSound, soundBench, put, answered, openOf, turnOf, takeOf, closeOf}
 use Rattle.bench_history.specs.History.{Call, opening, turning, taking, closing, answerTo, codeOf, leaves, tells, asks, serves, run, log, times, never, closes, releases}
 use Rattle.bench_history.specs.Promises.{Opening, Accepted, Unclosed, Kept, made, own}
-use Rattle.bench_history.specs.Guests.{Alike, same, opens, takes, Pairwise, none, more}
+use Rattle.bench_history.specs.Guests.{same, opens, takes, Pairwise, none, more}
 
 bytes : ℕ → List ℕ
 bytes n = replicate n 0

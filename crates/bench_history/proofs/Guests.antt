@@ -1,7 +1,7 @@
 -- A guest learns nothing of the others but which lanes are busy and how many turns were made: two benches that look alike to it give it like answers
 -- to like calls, and look alike after them.
 use mathlib.Core.Path.{_≡_, refl, sym, ap, _∙_}
-use mathlib.Core.Bool.{Bool, true, false, cond, _&&_, false≢true}
+use mathlib.Core.Bool.{Bool, true, false, cond, _&&_}
 use mathlib.Core.List.{List, [], _∷_}
 use mathlib.Core.Logic.{_≢_}
 use Prim.Native.Nat.{ℕ, zero, suc, _+_, min}
@@ -23,7 +23,7 @@ use Rattle.bench.specs.Turning.{laneCount, laneAt, runs, after, seek, chosen, a
 use Rattle.bench.specs.Orders.{openCode, turnCode, takeCode, closeCode}
 use Rattle.bench.specs.Calls.{freshBench, allSound, soundBench, put, answered, openOf, turnOf, takeOf, takenBytes, closeOf}
 use Rattle.bench_history.specs.History.{Call, opening, turning, taking, closing, answerTo, codeOf, leaves, tells}
-use Rattle.bench_history.specs.Guests.{Alike, same, opens, takes, Pairwise, none, more, Told, takesAs, buffer, told, learns, Apart}
+use Rattle.bench_history.specs.Guests.{Alike, same, opens, takes, Pairwise, none, more, takesAs, buffer, told, learns, Apart}
 use Rattle.bench_history.proofs.Accepted.{takes as take-done}
 
 module _ (g : ℕ) where

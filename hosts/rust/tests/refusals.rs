@@ -145,9 +145,24 @@ const LONG: &[u8] = &[6; 17];
 #[test]
 fn bench_refusals_in_order() {
     let bench = some_bench();
-    for lane in [Bench::LANES, Bench::LANES + 1, 255, 256, 257, 1 << 16, 1 << 31, u32::MAX] {
+    for lane in [
+        Bench::LANES,
+        Bench::LANES + 1,
+        255,
+        256,
+        257,
+        1 << 16,
+        1 << 31,
+        u32::MAX,
+    ] {
         assert_eq!(
-            refused(&bench, |b| b.open(lane, guest(1), Direction::Encrypt, SHORT, LONG)),
+            refused(&bench, |b| b.open(
+                lane,
+                guest(1),
+                Direction::Encrypt,
+                SHORT,
+                LONG
+            )),
             BadLane
         );
         assert_eq!(
@@ -158,20 +173,41 @@ fn bench_refusals_in_order() {
     }
     for lane in [0, 1] {
         assert_eq!(
-            refused(&bench, |b| b.open(lane, guest(1), Direction::Encrypt, SHORT, LONG)),
+            refused(&bench, |b| b.open(
+                lane,
+                guest(1),
+                Direction::Encrypt,
+                SHORT,
+                LONG
+            )),
             LaneNotIdle
         );
     }
     assert_eq!(
-        refused(&bench, |b| b.open(2, guest(1), Direction::Encrypt, SHORT, LONG)),
+        refused(&bench, |b| b.open(
+            2,
+            guest(1),
+            Direction::Encrypt,
+            SHORT,
+            LONG
+        )),
         BadKeyLength
     );
     assert_eq!(
-        refused(&bench, |b| b.open(2, guest(1), Direction::Encrypt, KEY, LONG)),
+        refused(&bench, |b| b.open(
+            2,
+            guest(1),
+            Direction::Encrypt,
+            KEY,
+            LONG
+        )),
         BadBlockLength
     );
     for lane in [1, 2] {
-        assert_eq!(refused(&bench, |b| b.take(lane, guest(257))), LaneNotFinished);
+        assert_eq!(
+            refused(&bench, |b| b.take(lane, guest(257))),
+            LaneNotFinished
+        );
         assert_eq!(
             refused(&bench, |b| b.take_into(lane, guest(257), &mut [0; 17])),
             LaneNotFinished
@@ -222,7 +258,10 @@ fn refusals_of_lent_records() {
             Err(BadBench)
         );
         assert_eq!(calls::turn(&mut lanes, 3, 5000), Err(BadBench));
-        assert_eq!(calls::take(&mut lanes, 3, Bench::LANES, 0, &mut [0; 17]), Err(BadBench));
+        assert_eq!(
+            calls::take(&mut lanes, 3, Bench::LANES, 0, &mut [0; 17]),
+            Err(BadBench)
+        );
         assert_eq!(calls::close(&mut lanes, 3, Bench::LANES, 0), Err(BadBench));
         assert_eq!(lanes, lent);
     }
@@ -232,7 +271,9 @@ fn refusals_of_lent_records() {
 fn unsound_benches() {
     let unsound = |lane: Lane| {
         lane != Lane::FRESH
-            && (lane.owner == 0 || lane.direction > 1 || !matches!((lane.phase, lane.count), (1, 0..=7) | (2, 8)))
+            && (lane.owner == 0
+                || lane.direction > 1
+                || !matches!((lane.phase, lane.count), (1, 0..=7) | (2, 8)))
     };
     let mut refusals = 0;
     for phase in [0, 1, 2, 3, 255] {
@@ -251,16 +292,33 @@ fn unsound_benches() {
                     if unsound(lanes[place]) {
                         refusals += 1;
                         assert_eq!(
-                            refused(&bench, |b| b.open(Bench::LANES, guest(1), Direction::Encrypt, SHORT, LONG)),
+                            refused(&bench, |b| b.open(
+                                Bench::LANES,
+                                guest(1),
+                                Direction::Encrypt,
+                                SHORT,
+                                LONG
+                            )),
                             BadBench
                         );
                         assert_eq!(refused(&bench, |b| b.turn(5000)), BadBench);
-                        assert_eq!(refused(&bench, |b| b.take(Bench::LANES, guest(1))), BadBench);
-                        assert_eq!(refused(&bench, |b| b.close(Bench::LANES, guest(1))), BadBench);
+                        assert_eq!(
+                            refused(&bench, |b| b.take(Bench::LANES, guest(1))),
+                            BadBench
+                        );
+                        assert_eq!(
+                            refused(&bench, |b| b.close(Bench::LANES, guest(1))),
+                            BadBench
+                        );
                     } else {
                         assert!(
                             bench.clone().turn(0) == Ok(0)
-                                && calls::close(&mut lanes.clone(), 1, place as u32, lanes[place].owner) == Ok(())
+                                && calls::close(
+                                    &mut lanes.clone(),
+                                    1,
+                                    place as u32,
+                                    lanes[place].owner
+                                ) == Ok(())
                         );
                     }
                 }
@@ -271,7 +329,13 @@ fn unsound_benches() {
     for last in [Bench::LANES, Bench::LANES + 1, 255, 256, 1 << 31, u32::MAX] {
         let bench = Bench::from_records(*some_bench().records(), last);
         assert_eq!(
-            refused(&bench, |b| b.open(2, guest(1), Direction::Encrypt, KEY, BLOCK)),
+            refused(&bench, |b| b.open(
+                2,
+                guest(1),
+                Direction::Encrypt,
+                KEY,
+                BLOCK
+            )),
             BadBench
         );
         assert_eq!(refused(&bench, |b| b.turn(0)), BadBench);
@@ -288,7 +352,13 @@ fn idle_records_are_all_zero() {
         set(&mut lanes[2]);
         let bench = Bench::from_records(lanes, 1);
         assert_eq!(
-            refused(&bench, |b| b.open(2, guest(1), Direction::Encrypt, KEY, BLOCK)),
+            refused(&bench, |b| b.open(
+                2,
+                guest(1),
+                Direction::Encrypt,
+                KEY,
+                BLOCK
+            )),
             BadBench
         );
         assert_eq!(refused(&bench, |b| b.turn(1)), BadBench);
@@ -311,7 +381,11 @@ fn idle_records_are_all_zero() {
 fn small_facts() {
     let open_all = || {
         let mut bench = Bench::new();
-        (0..Bench::LANES).for_each(|lane| bench.open(lane, guest(1), Direction::Encrypt, KEY, BLOCK).unwrap());
+        (0..Bench::LANES).for_each(|lane| {
+            bench
+                .open(lane, guest(1), Direction::Encrypt, KEY, BLOCK)
+                .unwrap()
+        });
         bench
     };
     let phases = |bench: &Bench| bench.records().map(|lane| lane.phase);
@@ -341,7 +415,9 @@ fn small_facts() {
     }
 
     let mut bench = Bench::new();
-    bench.open(2, guest(1), Direction::Encrypt, KEY, BLOCK).unwrap();
+    bench
+        .open(2, guest(1), Direction::Encrypt, KEY, BLOCK)
+        .unwrap();
     assert_eq!((bench.turn(100), bench.last_served()), (Ok(8), 2));
     assert!(bench.take(2, guest(1)).is_ok() && bench.records()[2] == Lane::FRESH);
     assert_eq!((bench.last_served(), bench.close(2, guest(2))), (2, Ok(())));
@@ -355,11 +431,17 @@ fn lanes_belong_to_a_guest() {
     assert_eq!(Owner::new(0), None);
     let bench = some_bench();
     for (lane, owner) in [(0, 1), (1, 257)] {
-        for other in (0..16).map(|bit| owner ^ 1 << bit).chain([0, 2, 255, 256, 512, 65535]) {
+        for other in (0..16)
+            .map(|bit| owner ^ 1 << bit)
+            .chain([0, 2, 255, 256, 512, 65535])
+        {
             let mut lanes = *bench.records();
             for length in [0, 15, 16, 17] {
                 let mut out = vec![9; length];
-                assert_eq!(calls::take(&mut lanes, 1, lane, other, &mut out), Err(NotTheOwner));
+                assert_eq!(
+                    calls::take(&mut lanes, 1, lane, other, &mut out),
+                    Err(NotTheOwner)
+                );
                 assert_eq!(out, vec![9; length]);
             }
             assert_eq!(calls::close(&mut lanes, 1, lane, other), Err(NotTheOwner));
@@ -370,7 +452,10 @@ fn lanes_belong_to_a_guest() {
     assert!(bench.clone().take(0, guest(1)).is_ok() && bench.clone().close(1, guest(257)).is_ok());
     for anyone in [1, 2, 256, 65535].map(guest) {
         let mut lent = bench.clone();
-        assert_eq!((lent.take(2, anyone), lent.close(2, anyone)), (Err(LaneNotFinished), Ok(())));
+        assert_eq!(
+            (lent.take(2, anyone), lent.close(2, anyone)),
+            (Err(LaneNotFinished), Ok(()))
+        );
         assert_eq!(lent, bench);
     }
 }
@@ -378,7 +463,9 @@ fn lanes_belong_to_a_guest() {
 #[test]
 fn round_words_are_not_told() {
     let mut bench = Bench::new();
-    bench.open(0, guest(1), Direction::Encrypt, KEY, BLOCK).unwrap();
+    bench
+        .open(0, guest(1), Direction::Encrypt, KEY, BLOCK)
+        .unwrap();
     assert_eq!(format!("{:?}", Gift128::new(&[5; 16])), "Gift128 { ... }");
     assert_eq!(
         format!("{:?}", bench.records()[0]),

@@ -1,5 +1,5 @@
 -- `bench::admits_at` tells whether a lane is open to a caller; past the last lane there is none, and the list's own default is idle.
-use mathlib.Core.Path.{_≡_, refl, sym, ap}
+use mathlib.Core.Path.{_≡_, sym, ap}
 use native.Mathlib.Omega.{arith}
 use lib.ListN.{length, List·getD-eq-default}
 use borrow.Author.Needs.{needs}

@@ -171,11 +171,7 @@ fn lanes_of_a_bench() {
             }
             4..=7 => {
                 let asked = numbers.below(9);
-                let before: u32 = bench
-                    .records()
-                    .iter()
-                    .map(|lane| lane.count)
-                    .sum();
+                let before: u32 = bench.records().iter().map(|lane| lane.count).sum();
                 let lacking: u32 = bench
                     .records()
                     .iter()
@@ -185,11 +181,7 @@ fn lanes_of_a_bench() {
                 let made = bench.turn(asked).unwrap();
                 assert_eq!(made, asked.min(lacking));
                 assert_eq!(
-                    bench
-                        .records()
-                        .iter()
-                        .map(|lane| lane.count)
-                        .sum::<u32>(),
+                    bench.records().iter().map(|lane| lane.count).sum::<u32>(),
                     before + made
                 );
             }
