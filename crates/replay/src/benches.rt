@@ -101,7 +101,10 @@ fn same_state(s: State, t: State) -> bool {
 fn same_lane(a: Lane, b: Lane) -> bool {
     let v = a.words;
     let w = b.words;
-    let head = (a.phase == b.phase) & (a.direction == b.direction) & (a.owner == b.owner) & (a.count == b.count);
+    let head = (a.phase == b.phase)
+        & (a.direction == b.direction)
+        & (a.owner == b.owner)
+        & (a.count == b.count);
     head & same_eighty(v, w) & same_state(a.state, b.state)
 }
 
@@ -123,7 +126,14 @@ fn opened(b: Bench, lane: u32, line: &[u8]) -> Answer {
     let key = k.bytes;
     let block = t.bytes;
     let direction = number(line, b"direction");
-    bench::open_lane(b, lane, owner(line), direction, front(&key, k.n), front(&block, t.n))
+    bench::open_lane(
+        b,
+        lane,
+        owner(line),
+        direction,
+        front(&key, k.n),
+        front(&block, t.n),
+    )
 }
 
 fn fresh() -> Answer {
