@@ -32,7 +32,7 @@
 extern "C" {
 #endif
 
-#define GIFT_HOST_EDITION 3 /* of this header */
+#define GIFT_HOST_EDITION 4 /* of this header */
 
 /* The edition of the library that is linked. */
 uint32_t gift_host_edition(void);
@@ -53,6 +53,7 @@ uint32_t gift_host_edition(void);
 #define GIFT_TOO_MANY_TURNS 8    /* more than 1,024 turns asked */
 #define GIFT_BAD_DIRECTION 9     /* a direction that is neither 0 nor 1 */
 #define GIFT_BAD_BENCH 10        /* not sixteen records, last served above 15, or a record that is not sound */
+#define GIFT_NOT_THE_OWNER 11    /* opening with owner 0; taking from or closing a busy lane with another number than its owner's */
 
 /* ---- one block, in place ---- */
 
@@ -88,11 +89,25 @@ uint32_t gift_decrypt_blocks(const uint8_t *key, size_t key_len, const uint8_t *
  * zero and the last served number GIFT_FRESH_LAST. The host keeps both. It passes the last served number by value;
  * only gift_turn moves it, and gives the new one back.
  *
- * A record is sound if it is all zero, which is idle, or if its direction is 0 or 1 and it is running with count 0 to 7 or
- * finished with count 8. Every call looks at all of every record and refuses with 10 if one is not sound; none repairs it.
- * A take and a close leave the record all zero: no round word or block stays in it. What a call itself had on the stack or in
- * registers is not wiped: the round words of a lane that was opened or turned may lie below the caller's frame until
- * something else is written there.
+ * A lane belongs to the guest that opened it, by a number from 1 to 65535 that the host gives each of its guests: its owner,
+ * until it is idle again. The library believes the number that a call passes; that a guest passes its own and no other is
+ * the host's affair. What a take (gift_take) and a close (gift_close) give:
+ *
+ *     the lane is   with its owner's number                 with any other number, 0 too
+ *     idle          take 7; close done, nothing changed     the same: take 7, close done for anyone
+ *     running       take 7; close done                      11; 11
+ *     finished      take 2 or done; close done              11 even with a wrong buffer; 11
+ *
+ * A busy lane is released by its owner's take or close, and by nothing else. Of the others a guest learns which lanes are busy
+ * and how many turns were made, but no byte of a key or block: in two runs from a fresh bench whose calls differ only in such
+ * bytes of other guests, every number given back and every turn told is the same, and so is what stands in the guest's own
+ * take buffers. (The records themselves are the host's, and are not to be shown to guests.)
+ *
+ * A record is sound if it is all zero, which is idle, or if its owner is not 0, its direction is 0 or 1 and it is running
+ * with count 0 to 7 or finished with count 8. Every call looks at all of every record and refuses with 10 if one is not
+ * sound; none repairs it. A take and a close leave the record all zero: no round word or block stays in it. What a call
+ * itself had on the stack or in registers is not wiped: the round words of a lane that was opened or turned may lie below
+ * the caller's frame until something else is written there.
  */
 
 #define GIFT_LANES 16          /* records of a bench */
@@ -112,13 +127,14 @@ typedef struct gift_state {
     uint32_t s0, s1, s2, s3;
 } gift_state;
 
-/* One lane: 340 bytes, aligned to 4, none of them padding. */
+/* One lane: 344 bytes, aligned to 4, none of them padding. */
 typedef struct gift_lane {
     uint8_t phase;              /* at 0: GIFT_IDLE, GIFT_RUNNING or GIFT_FINISHED */
     uint8_t direction;          /* at 1: GIFT_ENCRYPT or GIFT_DECRYPT */
-    uint16_t count;             /* at 2: its own turns since it was opened */
-    uint32_t words[GIFT_WORDS]; /* at 4: its round words */
-    gift_state state;           /* at 324: its block, as far as it has come */
+    uint16_t owner;             /* at 2: the guest that opened it */
+    uint32_t count;             /* at 4: its own turns since it was opened */
+    uint32_t words[GIFT_WORDS]; /* at 8: its round words */
+    gift_state state;           /* at 328: its block, as far as it has come */
 } gift_lane;
 
 /* What a call for turns tells. */
@@ -128,21 +144,25 @@ typedef struct gift_turns {
     uint32_t last; /* the last served number from now on; the one passed, if no turn was made */
 } gift_turns;
 
-/* Opens an idle lane on a key and a block: it runs from here, with count 0. Neither is needed after the call: the record
- * holds the key's round words and the block. Refusals: 10, 5, 6, 9, 1, 2. */
-uint32_t gift_open_lane(gift_lane *lanes, size_t lanes_len, uint32_t last, uint32_t lane, uint32_t direction,
-                        const uint8_t *key, size_t key_len, const uint8_t *block, size_t block_len);
+/* Opens an idle lane on a key and a block: it runs from here, with count 0, for the guest whose number is passed as owner.
+ * Key and block are not needed after the call: the record holds the key's round words and the block.
+ * Refusals: 10, 5, 6, 11, 9, 1, 2. */
+uint32_t gift_open_lane(gift_lane *lanes, size_t lanes_len, uint32_t last, uint32_t lane, uint16_t owner,
+                        uint32_t direction, const uint8_t *key, size_t key_len, const uint8_t *block, size_t block_len);
 
 /* Makes as many turns as are asked for, or fewer if no lane runs any more. Each serves the first running lane after the last
  * served one, in cyclic order, by five rounds, and its eighth finishes it. Asking for 0 is done. An opened lane that is not
- * closed is finished no later than the 128th turn made after its opening, whatever the other lanes do. Refusals: 10, 8. */
+ * closed by its owner is finished no later than the 128th turn made after its opening, whatever the other lanes do and
+ * the other guests try. Refusals: 10, 8. */
 gift_turns gift_turn(gift_lane *lanes, size_t lanes_len, uint32_t last, uint32_t asked);
 
-/* Writes the 16 bytes of a finished lane, whose record is all zero afterwards. Refusals: 10, 5, 7, 2. */
-uint32_t gift_take(gift_lane *lanes, size_t lanes_len, uint32_t last, uint32_t lane, uint8_t *out, size_t out_len);
+/* Writes the 16 bytes of a finished lane to its owner, and its record is all zero afterwards. Refusals: 10, 5, 11, 7, 2. */
+uint32_t gift_take(gift_lane *lanes, size_t lanes_len, uint32_t last, uint32_t lane, uint16_t owner, uint8_t *out,
+                   size_t out_len);
 
-/* Makes a lane idle, its record all zero, whatever it was; closing an idle lane changes nothing. Refusals: 10, 5. */
-uint32_t gift_close(gift_lane *lanes, size_t lanes_len, uint32_t last, uint32_t lane);
+/* Makes the owner's lane idle, its record all zero, however far it has come; closing an idle lane changes nothing, whoever
+ * does it. Refusals: 10, 5, 11. */
+uint32_t gift_close(gift_lane *lanes, size_t lanes_len, uint32_t last, uint32_t lane, uint16_t owner);
 
 /* The layout above, held to the compiler's where it can say so. */
 #if defined(__cplusplus) && __cplusplus >= 201103L
@@ -152,13 +172,14 @@ uint32_t gift_close(gift_lane *lanes, size_t lanes_len, uint32_t last, uint32_t 
 #endif
 #ifdef GIFT_HOST_HOLDS
 GIFT_HOST_HOLDS(sizeof(gift_state) == 16);
-GIFT_HOST_HOLDS(sizeof(gift_lane) == 340);
+GIFT_HOST_HOLDS(sizeof(gift_lane) == 344);
 GIFT_HOST_HOLDS(sizeof(gift_turns) == 12);
 #ifdef offsetof
 GIFT_HOST_HOLDS(offsetof(gift_lane, direction) == 1);
-GIFT_HOST_HOLDS(offsetof(gift_lane, count) == 2);
-GIFT_HOST_HOLDS(offsetof(gift_lane, words) == 4);
-GIFT_HOST_HOLDS(offsetof(gift_lane, state) == 324);
+GIFT_HOST_HOLDS(offsetof(gift_lane, owner) == 2);
+GIFT_HOST_HOLDS(offsetof(gift_lane, count) == 4);
+GIFT_HOST_HOLDS(offsetof(gift_lane, words) == 8);
+GIFT_HOST_HOLDS(offsetof(gift_lane, state) == 328);
 #endif
 #undef GIFT_HOST_HOLDS
 #endif

@@ -24,7 +24,8 @@ SEED = 128
 CALLS = 3019
 BIG = 2 ** 32 - 1
 IDLE, RUNNING, FINISHED = range(3)
-ORDERS = {"open_lane": [0, 10, 5, 6, 9, 1, 2], "turn": [0, 10, 8], "take": [0, 10, 5, 7, 2], "close": [0, 10, 5]}
+GUESTS = [1, 2, 7, 255, 256, 512, 519, 65535]  # 519 and 7 are alike in their low byte
+ORDERS = {"open_lane": [0, 10, 5, 6, 11, 9, 1, 2], "turn": [0, 10, 8], "take": [0, 10, 5, 11, 7, 2], "close": [0, 10, 5, 11]}
 FIRST = "# Calls of the bench by value, made by 'oracle/bench_model.py' from document 01."
 
 
@@ -39,17 +40,21 @@ class Lane:
     def idle(self):
         """What a take or a close leaves: nothing (2026-01). The words of the key of zeros are zeros."""
         self.key, self.words = bytes(16), None
-        self.phase = self.direction = self.count = self.block = 0
+        self.phase = self.direction = self.owner = self.count = self.block = 0
 
     def sound(self):
         if self.phase == IDLE:
             return self.idle_sound()
         counts = {RUNNING: range(8), FINISHED: [8]}
-        return self.count in counts.get(self.phase, []) and self.direction in (0, 1)
+        return self.count in counts.get(self.phase, []) and self.direction in (0, 1) and self.owner != 0
 
     def idle_sound(self):
         """What document 02 asks of a record whose phase is idle (2026-01): that everything in it is zero. This is the one place that says it."""
-        return not any([self.direction, self.count, self.block, *(self.key if self.words is None else self.words)])
+        return not any([self.direction, self.owner, self.count, self.block, *(self.key if self.words is None else self.words)])
+
+    def admits(self, caller):
+        """Who may take from it and close it: anyone if it is idle, its owner if it is busy (2026-06)."""
+        return self.phase == IDLE or self.owner == caller
 
     def serve(self):
         masks = rounds_of(self.key)
@@ -69,7 +74,7 @@ class Lane:
         else:
             words = "key", self.key.hex()
         state = "".join("%08x" % w for w in packed(self.block))
-        every = [("phase", "%x" % self.phase), ("direction", "%x" % self.direction), ("count", "%x" % self.count), words, ("state", state)]
+        every = [("phase", "%x" % self.phase), ("direction", "%x" % self.direction), ("owner", "%x" % self.owner), ("count", "%x" % self.count), words, ("state", state)]
         return {name: digits for name, digits in every if digits.strip("0")}
 
 
@@ -89,11 +94,12 @@ class Bench:
     def unsound(self):
         return self.last >= LANES or not all(l.sound() for l in self.lanes)
 
-    def open(self, lane, direction, key, block):
+    def open(self, lane, owner, direction, key, block):
         code = first([
             (10, self.unsound),
             (5, lambda: lane >= LANES),
             (6, lambda: self.lanes[lane].phase != IDLE),
+            (11, lambda: owner == 0),
             (9, lambda: direction not in (0, 1)),
             (1, lambda: len(key) != 16),
             (2, lambda: len(block) != 16),
@@ -101,7 +107,7 @@ class Bench:
         if code == 0:
             l = self.lanes[lane]
             l.key, l.words, l.block = key, None, number(block)
-            l.direction, l.count, l.phase = direction, 0, RUNNING
+            l.direction, l.owner, l.count, l.phase = direction, owner, 0, RUNNING
         return code
 
     def turn(self, asked):
@@ -117,10 +123,11 @@ class Bench:
             made += 1
         return code, made
 
-    def take(self, lane, buffer):
+    def take(self, lane, caller, buffer):
         code = first([
             (10, self.unsound),
             (5, lambda: lane >= LANES),
+            (11, lambda: not self.lanes[lane].admits(caller)),
             (7, lambda: self.lanes[lane].phase != FINISHED),
             (2, lambda: len(buffer) != 16),
         ])
@@ -129,8 +136,8 @@ class Bench:
             self.lanes[lane].idle()
         return code, buffer
 
-    def close(self, lane):
-        code = first([(10, self.unsound), (5, lambda: lane >= LANES)])
+    def close(self, lane, caller):
+        code = first([(10, self.unsound), (5, lambda: lane >= LANES), (11, lambda: not self.lanes[lane].admits(caller))])
         if code == 0:
             self.lanes[lane].idle()
         return code
@@ -191,23 +198,29 @@ class Script:
         self.bench = Bench()
         self.write("fresh", {}, 0)
 
-    def open(self, lane, direction=0, key=16, block=16):
-        key, block = self.some(key), self.some(block)
-        fields = {"lane": "%x" % lane, "direction": "%x" % direction, "key": key.hex(), "block": block.hex()}
-        return self.write("open_lane", fields, self.bench.open(lane, direction, key, block))
+    def owner_of(self, lane):
+        """The lane's owner, or where it has none some guest."""
+        held = self.bench.lanes[lane].owner if lane < LANES else 0
+        return held or self.random.choice(GUESTS)
+
+    def open(self, lane, direction=0, key=16, block=16, owner=None):
+        key, block, owner = self.some(key), self.some(block), self.random.choice(GUESTS) if owner is None else owner
+        fields = {"lane": "%x" % lane, "owner": "%x" % owner, "direction": "%x" % direction, "key": key.hex(), "block": block.hex()}
+        return self.write("open_lane", fields, self.bench.open(lane, owner, direction, key, block))
 
     def turn(self, asked):
         code, made = self.bench.turn(asked)
         self.write("turn", {"asked": "%x" % asked}, code, made)
         return code, made
 
-    def take(self, lane, length=16):
-        buffer = self.some(length)
-        code, after = self.bench.take(lane, buffer)
-        return self.write("take", {"lane": "%x" % lane, "lent": buffer.hex()}, code, left=after)
+    def take(self, lane, length=16, caller=None):
+        buffer, caller = self.some(length), self.owner_of(lane) if caller is None else caller
+        code, after = self.bench.take(lane, caller, buffer)
+        return self.write("take", {"lane": "%x" % lane, "owner": "%x" % caller, "lent": buffer.hex()}, code, left=after)
 
-    def close(self, lane):
-        return self.write("close", {"lane": "%x" % lane}, self.bench.close(lane))
+    def close(self, lane, caller=None):
+        caller = self.owner_of(lane) if caller is None else caller
+        return self.write("close", {"lane": "%x" % lane, "owner": "%x" % caller}, self.bench.close(lane, caller))
 
     def put(self, records, last, lane, wrong=None):
         """The host's records, each with a phase, a direction and a count; every lane keeps its words, and all but one its state. A record that is to be
@@ -216,6 +229,7 @@ class Script:
         self.bench.last = last
         for n, (l, record) in enumerate(zip(self.bench.lanes, records)):
             l.phase, l.direction, l.count = record
+            l.owner = 0 if l.phase == IDLE else self.random.choice(GUESTS)
             if n == lane:
                 l.block = state
             if n != wrong and not l.sound():
@@ -239,16 +253,17 @@ class Script:
     def any_call(self):
         r = self.random
         kind = r.choices(["open", "turn", "take", "close"], [35, 30, 27, 8])[0]
+        stranger = r.choice([0, *GUESTS]) if r.random() < 0.12 else None
         if kind == "open":
             direction = r.choice([0, 1]) if r.random() < 0.88 else r.choice([2, 3, 256, 257, BIG])
-            self.open(self.any_lane(IDLE), direction, self.any_length(), self.any_length())
+            self.open(self.any_lane(IDLE), direction, self.any_length(), self.any_length(), stranger)
         elif kind == "turn":
             self.turn(r.choice([0, 1, 1, 2, 3, 3, 7, 7, 8, 8, 15, 31, 32, 8 * LANES - 1, 8 * LANES, 100, 1023, 1024, 1025, 1026, 65536, 2 ** 31, BIG]))
         elif kind == "take":
             length = 16 if r.random() < 0.8 else r.choice([0, 15, 17])
-            self.take(self.any_lane(FINISHED), length)
+            self.take(self.any_lane(FINISHED), length, stranger)
         else:
-            self.close(self.any_lane())
+            self.close(self.any_lane(), stranger)
 
     # ---- the parts of the list
 
@@ -331,9 +346,9 @@ class Script:
             left -= 1
 
     def wide_counts(self):
-        """Counts that are sound but for their higher byte: every call gives 10."""
-        self.heading("a count of sixteen bits not sound, put by the host")
-        for n, record in enumerate([(IDLE, 0, 256), (RUNNING, 0, 256), (RUNNING, 1, 263), (FINISHED, 0, 264), (FINISHED, 1, 8 << 8), (RUNNING, 0, 65535)]):
+        """Counts that are sound but for their higher bytes: every call gives 10."""
+        self.heading("a count of more than eight bits not sound, put by the host")
+        for n, record in enumerate([(IDLE, 0, 256), (RUNNING, 0, 256), (RUNNING, 1, 263), (FINISHED, 0, 264), (FINISHED, 1, 8 << 8), (RUNNING, 0, 65535), (RUNNING, 0, 65539), (FINISHED, 0, 8 << 16), (RUNNING, 1, BIG)]):
             records = [self.any_record() for _ in range(LANES)]
             records[n % LANES] = record
             self.put(records, n % LANES, n % LANES, n % LANES)
@@ -347,7 +362,7 @@ class Script:
         bit = lambda width: 1 << self.random.randrange(width)
         some = lambda places: [bit(32) if i in places else 0 for i in range(80)]
         changes = [("words", some([i])) for i in range(80)] + [("words", some(range(80))), ("key", self.some(16))]
-        changes += [("block", 1 << 4 * self.random.randrange(32) + j) for j in range(4)] + [("direction", bit(8)), ("count", bit(8)), ("count", bit(8) << 8)]
+        changes += [("block", 1 << 4 * self.random.randrange(32) + j) for j in range(4)] + [("direction", bit(8)), ("owner", bit(8)), ("owner", bit(8) << 8), ("count", bit(8)), ("count", bit(8) << 8), ("count", bit(16) << 16)]
         for k, change in enumerate(changes):
             n, other = k % LANES, (k + 1) % LANES
             calls = [lambda: self.turn(8)[0], lambda: self.open(n), lambda: self.close(n), lambda: self.take(other)]
@@ -357,6 +372,34 @@ class Script:
             setattr(self.bench.lanes[n], *change)
             self.write("put", {})
             assert calls[k // LANES % 4]() == 10
+        self.fresh()
+
+    def owners(self):
+        """A lane idle, running and finished, and its owner, every other guest and number 0 at it; openings by number 0; a busy record whose owner is 0."""
+        self.heading("lanes that belong to a guest")
+        for k, owner in enumerate(GUESTS):
+            n = k % LANES
+            others = [g for g in [0, *GUESTS] if g != owner]
+            for caller in [owner, *others]:
+                assert (self.take(n, caller=caller), self.close(n, caller)) == (7, 0)
+            assert self.open(n, 9, 15, 15, owner=0) == 11 and self.open(n, 9, 15, 15, owner=owner) == 9
+            assert self.open(n, k % 2, owner=owner) == 0
+            assert self.open(n, 9, 15, 15, owner=0) == 6
+            for turns in (4, 4):
+                for caller in others:
+                    assert (self.take(n, 15, caller), self.take(n, caller=caller), self.close(n, caller)) == (11, 11, 11)
+                assert self.take(n, 15, owner) == 7
+                self.turn(turns)
+            for caller in others:
+                assert (self.take(n, 15, caller), self.take(n, caller=caller), self.close(n, caller)) == (11, 11, 11)
+            assert self.take(n, 15, owner) == 2
+            assert (self.take(n, caller=owner) if k % 2 else self.close(n, owner)) == 0
+        for phase, count, owner in (IDLE, 0, 1), (IDLE, 0, 256), (RUNNING, 3, 0), (FINISHED, 8, 0):
+            self.fresh()
+            l = self.bench.lanes[3 % LANES]
+            l.phase, l.count, l.owner = phase, count, owner
+            self.write("put", {})
+            assert [self.open(0), self.turn(1)[0], self.take(3 % LANES), self.close(3 % LANES)] == [10] * 4
         self.fresh()
 
     def wiped_lanes(self):
@@ -385,7 +428,7 @@ def wrong_cases(cases):
         tries = []
         for n, told in enumerate(after):
             words = "key" if plain or "key" in told else "words"
-            tries += [(after[:n] + [damaged(told, name)] + after[n + 1:], gives) for name in ("phase", "direction", "count", words, "state")]
+            tries += [(after[:n] + [damaged(told, name)] + after[n + 1:], gives) for name in ("phase", "direction", "owner", "count", words, "state")]
         tries += [(after, damaged(gives, name)) for name in gives]
         for records, given in tries:
             yield from (record(n, r) for n, r in enumerate(before))
@@ -403,6 +446,7 @@ def main():
     script.wide_counts()
     script.idle_records()
     script.wiped_lanes()
+    script.owners()
     if sys.argv[1:] == ["--wrong"]:
         print("\n".join(wrong_cases(script.cases)))
         return

@@ -15,6 +15,7 @@
 #define STACK 131072
 #define PAINT 0xa5
 #define MANY 32
+#define OWNER 1 /* the guest that has every lane */
 
 static gift_lane lanes[GIFT_LANES], kept[GIFT_LANES];
 static uint32_t last;
@@ -24,9 +25,10 @@ static uint32_t code, made;
 
 /* ---- the calls, each through a pointer, so that a function that does nothing can stand in its place */
 
-static uint32_t no_open(gift_lane *l, size_t n, uint32_t last_served, uint32_t lane, uint32_t direction, const uint8_t *k, size_t k_len, const uint8_t *b, size_t b_len)
+static uint32_t no_open(gift_lane *l, size_t n, uint32_t last_served, uint32_t lane, uint16_t owner, uint32_t direction, const uint8_t *k, size_t k_len, const uint8_t *b,
+                        size_t b_len)
 {
-    (void)l, (void)n, (void)last_served, (void)lane, (void)direction, (void)k, (void)k_len, (void)b, (void)b_len;
+    (void)l, (void)n, (void)last_served, (void)lane, (void)owner, (void)direction, (void)k, (void)k_len, (void)b, (void)b_len;
     return GIFT_DONE;
 }
 
@@ -36,15 +38,15 @@ static gift_turns no_turn(gift_lane *l, size_t n, uint32_t last_served, uint32_t
     return (gift_turns){GIFT_DONE, 0, last_served};
 }
 
-static uint32_t no_take(gift_lane *l, size_t n, uint32_t last_served, uint32_t lane, uint8_t *out, size_t out_len)
+static uint32_t no_take(gift_lane *l, size_t n, uint32_t last_served, uint32_t lane, uint16_t owner, uint8_t *out, size_t out_len)
 {
-    (void)l, (void)n, (void)last_served, (void)lane, (void)out, (void)out_len;
+    (void)l, (void)n, (void)last_served, (void)lane, (void)owner, (void)out, (void)out_len;
     return GIFT_DONE;
 }
 
-static uint32_t no_close(gift_lane *l, size_t n, uint32_t last_served, uint32_t lane)
+static uint32_t no_close(gift_lane *l, size_t n, uint32_t last_served, uint32_t lane, uint16_t owner)
 {
-    (void)l, (void)n, (void)last_served, (void)lane;
+    (void)l, (void)n, (void)last_served, (void)lane, (void)owner;
     return GIFT_DONE;
 }
 
@@ -64,7 +66,7 @@ static void real(void) { open_call = gift_open_lane, turn_call = gift_turn, take
 static void unreal(void) { open_call = no_open, turn_call = no_turn, take_call = no_take, close_call = no_close, encrypt_call = decrypt_call = no_block; }
 
 static __typeof__(&gift_close) volatile no_call = no_close;
-static void nothing(void) { code = no_call(lanes, GIFT_LANES, last, 0); }
+static void nothing(void) { code = no_call(lanes, GIFT_LANES, last, 0, OWNER); }
 static void by_words(void) { code = gift_encrypt_by_words(words, GIFT_WORDS, block, sizeof block); }
 static void expand(void) { code = gift_expand(key, sizeof key, words, GIFT_WORDS); }
 static void encrypt(void) { code = gift_encrypt_by_key(key, sizeof key, block, sizeof block); }
@@ -82,9 +84,9 @@ static void turns(uint32_t asked)
 static void one_turn(void) { turns(1); }
 static void many_turns(void) { turns(MANY); }
 static void too_many_turns(void) { turns(GIFT_MOST_TURNS + 1); }
-static void opening(void) { code = open_call(lanes, GIFT_LANES, last, GIFT_LANES - 1, GIFT_ENCRYPT, key, sizeof key, block, sizeof block); }
-static void taking(void) { code = take_call(lanes, GIFT_LANES, last, GIFT_LANES - 1, block, sizeof block); }
-static void closing(void) { code = close_call(lanes, GIFT_LANES, last, GIFT_LANES - 1); }
+static void opening(void) { code = open_call(lanes, GIFT_LANES, last, GIFT_LANES - 1, OWNER, GIFT_ENCRYPT, key, sizeof key, block, sizeof block); }
+static void taking(void) { code = take_call(lanes, GIFT_LANES, last, GIFT_LANES - 1, OWNER, block, sizeof block); }
+static void closing(void) { code = close_call(lanes, GIFT_LANES, last, GIFT_LANES - 1, OWNER); }
 
 /* ---- the records that they are made on */
 
@@ -102,7 +104,7 @@ static void keep(uint32_t n, uint32_t asked)
     memset(lanes, 0, sizeof lanes);
     last = GIFT_FRESH_LAST;
     for (uint32_t lane = GIFT_LANES - n; lane < GIFT_LANES; lane++) {
-        code = gift_open_lane(lanes, GIFT_LANES, last, lane, lane % 2, key, sizeof key, block, sizeof block);
+        code = gift_open_lane(lanes, GIFT_LANES, last, lane, OWNER, lane % 2, key, sizeof key, block, sizeof block);
         expect(code, GIFT_DONE, "gift_open_lane");
     }
     for (; asked != 0; asked--) {

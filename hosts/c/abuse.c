@@ -1,5 +1,5 @@
-/* A random walk of 100,000 calls over everything that the library exports, with good and bad arguments, and after it every bit of an idle record set
- * alone. Each call is held to model.h: the number given back, every byte, word and record lent, and every byte round them, so that a record is looked
+/* A random walk of 100,000 calls over everything that the library exports, with good and bad arguments and with guests that steal, and after it every bit
+ * of an idle record set alone. Each call is held to model.h: the number given back, every byte, word and record lent, and every byte round them, so that a record is looked
  * at byte by byte after each take and close. The same calls on each run. Exit status 1 if anything differs. */
 #include <stdio.h>
 #include <string.h>
@@ -12,7 +12,7 @@
 /* The header's names are document 01's numbers. */
 _Static_assert(GIFT_DONE == 0 && GIFT_BAD_KEY_LENGTH == 1 && GIFT_BAD_BLOCK_LENGTH == 2 && GIFT_BAD_OUTPUT_LENGTH == 3, "0 to 3");
 _Static_assert(GIFT_BAD_WORD_COUNT == 4 && GIFT_BAD_LANE == 5 && GIFT_LANE_NOT_IDLE == 6 && GIFT_LANE_NOT_FINISHED == 7, "4 to 7");
-_Static_assert(GIFT_TOO_MANY_TURNS == 8 && GIFT_BAD_DIRECTION == 9 && GIFT_BAD_BENCH == 10, "8 to 10");
+_Static_assert(GIFT_TOO_MANY_TURNS == 8 && GIFT_BAD_DIRECTION == 9 && GIFT_BAD_BENCH == 10 && GIFT_NOT_THE_OWNER == 11, "8 to 11");
 _Static_assert(GIFT_IDLE == 0 && GIFT_RUNNING == 1 && GIFT_FINISHED == 2 && GIFT_ENCRYPT == 0 && GIFT_DECRYPT == 1, "phases and directions");
 _Static_assert(GIFT_BLOCK_SIZE == 16 && GIFT_KEY_SIZE == 16 && GIFT_WORDS == 80 && GIFT_LANES == LANES && GIFT_FRESH_LAST == LANES - 1, "sizes");
 _Static_assert(GIFT_MOST_TURNS == 1024 && GIFT_TURNS_OF_A_LANE == 8, "turns");
@@ -128,7 +128,7 @@ static const char *const names[KINDS] = {
     "gift_plain_encrypt_by_key", "gift_plain_decrypt_by_key",
 };
 
-static unsigned calls, differences, given[KINDS][11];
+static unsigned calls, differences, given[KINDS][12];
 
 /* Counts a difference, and starts to tell it if there were not many before. */
 static int differs(unsigned kind)
@@ -234,7 +234,7 @@ static gift_lane records[RECORDS];  /* as the model has them */
 static uint32_t served = LANES - 1; /* the lane last served */
 static int opened[LANES];           /* by gift_open_lane, and not a record of the host's making; */
 static uint8_t promised[LANES][16]; /* then this is what the lane must yield */
-static unsigned made_by_host, unsound, one_bits, slices, lasts, turns_made, yielded;
+static unsigned made_by_host, unsound, one_bits, slices, lasts, turns_made, yielded, stolen, nobodys;
 
 static room benches;
 
@@ -253,6 +253,27 @@ static void lend_bench(size_t lanes_len)
     benches.size = lanes_len * sizeof(gift_lane);
 }
 
+/* The guests: some numbers alike in their low byte, some in their high one. */
+static const uint16_t guests[] = {1, 2, 255, 256, 257, 258, 512, 32769, 65535};
+
+static uint16_t some_guest(void)
+{
+    return guests[below(sizeof guests / sizeof *guests)];
+}
+
+/* Who takes or closes: mostly the lane's owner, and else some guest, nobody, or a number that differs from the owner's in one bit. */
+static uint16_t some_caller(uint32_t lane)
+{
+    uint16_t owner = lane < LANES ? records[lane].owner : 0;
+    if (below(3) != 0)
+        return owner;
+    switch (below(3)) {
+    case 0: return some_guest();
+    case 1: return 0;
+    default: return (uint16_t)(owner ^ 1u << below(16));
+    }
+}
+
 /* A sound record such as a host may make: idle and all zero, or busy with any words on any state. */
 static gift_lane some_record(void)
 {
@@ -262,15 +283,16 @@ static gift_lane some_record(void)
     l.state = (gift_state){(uint32_t)next(), (uint32_t)next(), (uint32_t)next(), (uint32_t)next()};
     l.phase = (uint8_t)below(3);
     l.direction = (uint8_t)below(2);
-    l.count = (uint16_t)(l.phase == 1 ? below(8) : 8);
+    l.owner = some_guest();
+    l.count = l.phase == 1 ? below(8) : 8;
     return l.phase == 0 ? (gift_lane){0} : l;
 }
 
 static void spoil(gift_lane *l)
 {
-    static const uint16_t off[][2] = {
-        {0, 1}, {0, 8}, {0, 255}, {0, 256}, {0, 65280}, {1, 8}, {1, 9}, {1, 256}, {1, 263}, {1, 65535}, {2, 0}, {2, 7}, {2, 9}, {2, 264}, {2, 2048}, {2, 65535},
-        {3, 0}, {3, 8}, {255, 0}, {255, 8},
+    static const uint32_t off[][2] = {
+        {0, 1}, {0, 8}, {0, 255}, {0, 256}, {0, 65280}, {1, 8}, {1, 9}, {1, 256}, {1, 263}, {1, 65535}, {1, 65536}, {2, 0}, {2, 7}, {2, 9}, {2, 264}, {2, 2048}, {2, 65544},
+        {2, 134217728}, {2, 4294967295}, {3, 0}, {3, 8}, {255, 0}, {255, 8},
     };
     static const uint8_t directions[] = {2, 3, 128, 255};
     if (l->phase == 0 && below(4) != 0) {
@@ -279,6 +301,8 @@ static void spoil(gift_lane *l)
         *byte |= (uint8_t)(1u << below(8));
     } else if (below(4) == 0) {
         l->direction = directions[below(sizeof directions)];
+    } else if (below(4) == 0 && l->phase != 0) {
+        l->owner = 0;
     } else {
         uint32_t n = below(sizeof off / sizeof *off);
         l->phase = (uint8_t)off[n][0];
@@ -289,17 +313,19 @@ static void spoil(gift_lane *l)
 static void open_lane(size_t lanes_len, uint32_t last)
 {
     uint32_t number, must, lane = up_to(LANES - 1), direction = up_to(1);
+    uint16_t owner = bad() ? 0 : some_guest();
     lend(&keys, "key", length(16), 1);
     lend(&blocks, "block", length(16), 1);
-    must = open_number(records, lanes_len, last, lane, direction, keys.length, blocks.length);
+    must = open_number(records, lanes_len, last, lane, owner, direction, keys.length, blocks.length);
     if (must == 0) {
-        model_open(&records[lane], direction, expected(&keys), expected(&blocks));
+        model_open(&records[lane], owner, direction, expected(&keys), expected(&blocks));
         model_by_key(direction, expected(&keys), expected(&blocks), promised[lane]);
         opened[lane] = 1;
     }
     store_records(expected(&benches));
-    number = gift_open_lane(part(&benches), lanes_len, last, lane, direction, part(&keys), keys.length, part(&blocks), blocks.length);
+    number = gift_open_lane(part(&benches), lanes_len, last, lane, owner, direction, part(&keys), keys.length, part(&blocks), blocks.length);
     hold(OPEN_LANE, number, must);
+    nobodys += must == 11;
 }
 
 static void turn(size_t lanes_len, uint32_t last)
@@ -322,12 +348,14 @@ static void turn(size_t lanes_len, uint32_t last)
 static void take(size_t lanes_len, uint32_t last)
 {
     uint32_t number, must, lane = up_to(LANES - 1);
+    uint16_t caller = some_caller(lane);
     lend(&outputs, "take buffer", length(16), 1);
-    must = take_number(records, lanes_len, last, lane, outputs.length);
+    must = take_number(records, lanes_len, last, lane, caller, outputs.length);
+    stolen += must == 11 && records[lane].phase == 2;
     if (must == 0)
         model_take(&records[lane], expected(&outputs));
     store_records(expected(&benches));
-    number = gift_take(part(&benches), lanes_len, last, lane, part(&outputs), outputs.length);
+    number = gift_take(part(&benches), lanes_len, last, lane, caller, part(&outputs), outputs.length);
     hold(TAKE, number, must);
     if (must == 0 && opened[lane]) {
         yielded++;
@@ -339,11 +367,12 @@ static void take(size_t lanes_len, uint32_t last)
 static void close_lane(size_t lanes_len, uint32_t last)
 {
     uint32_t number, must, lane = up_to(LANES - 1);
-    must = lane_number(records, lanes_len, last, lane);
+    uint16_t caller = some_caller(lane);
+    must = close_number(records, lanes_len, last, lane, caller);
     if (must == 0)
         model_close(&records[lane]);
     store_records(expected(&benches));
-    number = gift_close(part(&benches), lanes_len, last, lane);
+    number = gift_close(part(&benches), lanes_len, last, lane, caller);
     hold(CLOSE, number, must);
 }
 
@@ -402,8 +431,7 @@ static void on_the_bench(void)
         *damaged = right;
 }
 
-/* Every bit of an idle record, in every lane, before each of the four calls: set alone, it makes the record unsound, but for the one that makes
- * it a running record. */
+/* Every bit of an idle record, in every lane, before each of the four calls: set alone, it makes the record unsound. (A running record has an owner.) */
 static void every_bit(void)
 {
     mischief = 0;
@@ -412,8 +440,6 @@ static void every_bit(void)
         for (size_t bit = 0; bit < 8 * sizeof right; bit++) {
             records[lane] = (gift_lane){0};
             ((uint8_t *)&records[lane])[bit / 8] = (uint8_t)(1u << bit % 8);
-            if (sound(&records[lane]))
-                continue;
             for (uint32_t kind = 0; kind < 4; kind++, one_bits++)
                 call_bench(kind, LANES, served);
         }
@@ -443,15 +469,16 @@ int main(void)
     every_bit();
 
     printf("%-22s", "number given back:");
-    for (unsigned number = 0; number <= 10; number++)
+    for (unsigned number = 0; number <= 11; number++)
         printf("%7u", number);
     for (unsigned kind = 0; kind < PLAIN_ENCRYPT; kind++) {
         printf("\n%-22s", names[kind]);
-        for (unsigned number = 0; number <= 10; number++)
+        for (unsigned number = 0; number <= 11; number++)
             printf("%7u", given[kind][number]);
     }
     printf("\n");
     printf("%u turns were made; %u opened lanes yielded what GIFT-128 gives\n", turns_made, yielded);
+    printf("%u takes of finished lanes were thefts, and %u openings nobody's: refused with 11\n", stolen, nobodys);
     printf("%u sound records were the host's; %u calls met an unsound one, %u a slice of another length, %u a last served number that is no lane's\n", made_by_host,
            unsound, slices, lasts);
     printf("%u calls met an idle record with one bit set, each bit of each lane's record before each of the four calls\n", one_bits);

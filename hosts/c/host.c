@@ -1,5 +1,5 @@
 /* A metered host, to copy from. Sixteen settings, one for each guest, came as GIFT-128 blocks. It decrypts them between its guests' slices of work,
- * three turns at a time, so that no guest waits for more than three turns.
+ * three turns at a time, so that no guest waits for more than three turns. A lane is opened in its guest's name, and is that guest's alone.
  *
  *     rt staticlib gift_host && cc hosts/c/host.c target/staticlib/libgift_host.a
  *
@@ -20,9 +20,15 @@ static void apply(uint32_t guest, const uint8_t *setting);
 static gift_lane lanes[GIFT_LANES];     /* the host's own records; all zero, they are idle */
 static uint32_t last = GIFT_FRESH_LAST; /* the lane last served */
 
-static void decrypt_setting(uint32_t lane, const uint8_t *key, const uint8_t *block)
+/* The number by which the bench knows a guest; 0 is nobody's. */
+static uint16_t owner(uint32_t guest)
 {
-    uint32_t code = gift_open_lane(lanes, GIFT_LANES, last, lane, GIFT_DECRYPT,
+    return (uint16_t)(guest + 1);
+}
+
+static void decrypt_setting(uint32_t guest, const uint8_t *key, const uint8_t *block)
+{
+    uint32_t code = gift_open_lane(lanes, GIFT_LANES, last, guest, owner(guest), GIFT_DECRYPT,
                                    key, GIFT_KEY_SIZE, block, GIFT_BLOCK_SIZE);
     if (code != GIFT_DONE)
         refused("gift_open_lane", code);
@@ -35,11 +41,11 @@ static uint32_t between_slices(void)
     if (turns.code != GIFT_DONE)
         refused("gift_turn", turns.code);
     last = turns.last;
-    for (uint32_t lane = 0; lane < GIFT_LANES; lane++) {
+    for (uint32_t guest = 0; guest < GUESTS; guest++) {
         uint8_t setting[GIFT_BLOCK_SIZE];
-        uint32_t code = gift_take(lanes, GIFT_LANES, last, lane, setting, sizeof setting);
+        uint32_t code = gift_take(lanes, GIFT_LANES, last, guest, owner(guest), setting, sizeof setting);
         if (code == GIFT_DONE)
-            apply(lane, setting);
+            apply(guest, setting);
         else if (code != GIFT_LANE_NOT_FINISHED)
             refused("gift_take", code);
     }
@@ -98,11 +104,24 @@ static void work(uint32_t guest)
 static void withdraw(uint32_t guest)
 {
     uint32_t turns = lanes[guest].count;
-    uint32_t code = gift_close(lanes, GIFT_LANES, last, guest);
+    uint32_t code = gift_close(lanes, GIFT_LANES, last, guest, owner(guest));
     if (code != GIFT_DONE)
         refused("gift_close", code);
     printf("  guest %u's setting is withdrawn: its lane is closed after %u turns of %d\n", guest, turns, GIFT_TURNS_OF_A_LANE);
     waiting--;
+}
+
+/* A guest that asks for another's setting, and would have it closed: neither is done, and the buffer stays as it was. */
+static void meddle(uint32_t guest, uint32_t other)
+{
+    uint8_t setting[GIFT_BLOCK_SIZE] = {0};
+    uint32_t take = gift_take(lanes, GIFT_LANES, last, other, owner(guest), setting, sizeof setting);
+    uint32_t close = gift_close(lanes, GIFT_LANES, last, other, owner(guest));
+    if (take != GIFT_NOT_THE_OWNER || close != GIFT_NOT_THE_OWNER) {
+        printf("guest %u is let into guest %u's lane, numbers %u and %u\n", guest, other, take, close);
+        exit(1);
+    }
+    printf("  guest %u would take guest %u's setting, and close its lane: refused, numbers %u and %u\n", guest, other, take, close);
 }
 
 /* Every lane was taken from or closed: no byte of a record is left, and so none of a key or of a setting. */
@@ -136,6 +155,8 @@ int main(void)
         made += between_slices();
         if (slice == 5)
             withdraw(2);
+        if (slice == 6)
+            meddle(5, 4);
     }
     for (guest = 0; guest < GUESTS; guest++)
         printf("guest %u worked %u steps\n", guest, steps[guest]);

@@ -217,9 +217,10 @@ static bits unpacked(gift_state state)
 
 #define LANES 16 /* as document 02 has it, 2026-05 */
 
-static void model_open(gift_lane *lane, uint32_t direction, const uint8_t *key, const uint8_t *block)
+static void model_open(gift_lane *lane, uint16_t owner, uint32_t direction, const uint8_t *key, const uint8_t *block)
 {
     lane->phase = 1;
+    lane->owner = owner;
     lane->direction = (uint8_t)direction;
     lane->count = 0;
     model_expand(key, lane->words);
@@ -295,7 +296,7 @@ static int sound(const gift_lane *lane)
                 return 0;
         return 1;
     }
-    if (lane->direction > 1)
+    if (lane->owner == 0 || lane->direction > 1)
         return 0;
     switch (lane->phase) {
     case 1: return lane->count <= 7;
@@ -320,13 +321,13 @@ static uint32_t lane_number(const gift_lane *lanes, size_t lanes_len, uint32_t l
     return number != 0 ? number : lane >= LANES ? 5 : 0;
 }
 
-static uint32_t open_number(const gift_lane *lanes, size_t lanes_len, uint32_t last, uint32_t lane, uint32_t direction, size_t key_len,
-                            size_t block_len)
+static uint32_t open_number(const gift_lane *lanes, size_t lanes_len, uint32_t last, uint32_t lane, uint16_t owner, uint32_t direction,
+                            size_t key_len, size_t block_len)
 {
     uint32_t number = lane_number(lanes, lanes_len, last, lane);
     if (number != 0)
         return number;
-    return lanes[lane].phase != 0 ? 6 : direction > 1 ? 9 : key_number(key_len, block_len);
+    return lanes[lane].phase != 0 ? 6 : owner == 0 ? 11 : direction > 1 ? 9 : key_number(key_len, block_len);
 }
 
 static uint32_t turn_number(const gift_lane *lanes, size_t lanes_len, uint32_t last, uint32_t asked)
@@ -335,9 +336,18 @@ static uint32_t turn_number(const gift_lane *lanes, size_t lanes_len, uint32_t l
     return number != 0 ? number : asked > 1024 ? 8 : 0;
 }
 
-static uint32_t take_number(const gift_lane *lanes, size_t lanes_len, uint32_t last, uint32_t lane, size_t out_len)
+/* a close's */
+static uint32_t close_number(const gift_lane *lanes, size_t lanes_len, uint32_t last, uint32_t lane, uint16_t owner)
 {
     uint32_t number = lane_number(lanes, lanes_len, last, lane);
+    if (number != 0)
+        return number;
+    return lanes[lane].phase != 0 && lanes[lane].owner != owner ? 11 : 0;
+}
+
+static uint32_t take_number(const gift_lane *lanes, size_t lanes_len, uint32_t last, uint32_t lane, uint16_t owner, size_t out_len)
+{
+    uint32_t number = close_number(lanes, lanes_len, last, lane, owner);
     if (number != 0)
         return number;
     return lanes[lane].phase != 2 ? 7 : out_len != 16 ? 2 : 0;

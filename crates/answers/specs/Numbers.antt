@@ -33,3 +33,6 @@ BAD_DIRECTION = 9
 
 abbrev pub BAD_BENCH : ℕ
 BAD_BENCH = 10
+
+abbrev pub NOT_THE_OWNER : ℕ
+NOT_THE_OWNER = 11

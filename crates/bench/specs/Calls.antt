@@ -6,7 +6,7 @@ use lib.Dec.{eqb, ltb}
 use lib.ListN.{length, set, replicate}
 use Rattle.answers.specs.Order.{ifDone}
 use Rattle.lane.specs.declared.Lane.{Lane}
-use Rattle.lane.specs.Record.{soundLane, idleLane, opened, lacks, yielded}
+use Rattle.lane.specs.Record.{soundLane, admits, idleLane, opened, lacks, yielded}
 use Rattle.bench.specs.declared.Bench.{Bench}
 use Rattle.bench.specs.declared.Answer.{Answer}
 use Rattle.bench.specs.Turning.{laneCount, laneAt, turnedBy, total}
@@ -32,22 +32,22 @@ put b i l = record { lanes = set (b .lanes) i l; last = b .last }
 unfoldable pub answered : (number made : ℕ) (new old : Bench) → Answer
 answered number made new old = record { code = number; made = ifDone number made 0; bench = ifDone number new old }
 
-unfoldable pub openOf : Bench → (lane direction : ℕ) (key block : List ℕ) → Answer
-openOf b lane direction key block =
-    answered (openCode (soundBench b) lane (laneAt (b .lanes) lane .phase) direction (length key) (length block)) 0
-    (put b lane (opened direction key block)) b
+unfoldable pub openOf : Bench → (lane owner direction : ℕ) (key block : List ℕ) → Answer
+openOf b lane owner direction key block =
+    answered (openCode (soundBench b) lane (laneAt (b .lanes) lane .phase) owner direction (length key) (length block)) 0
+    (put b lane (opened owner direction key block)) b
 
 unfoldable pub turnOf : Bench → (asked : ℕ) → Answer
 turnOf b asked = answered (turnCode (soundBench b) asked) (min asked (total lacks (b .lanes))) (turnedBy asked b) b
 
-unfoldable pub takeOf : Bench → (lane : ℕ) (out : List ℕ) → Answer
-takeOf b lane out =
-    answered (takeCode (soundBench b) lane (laneAt (b .lanes) lane .phase) (length out)) 0
+unfoldable pub takeOf : Bench → (lane caller : ℕ) (out : List ℕ) → Answer
+takeOf b lane caller out =
+    answered (takeCode (soundBench b) lane (admits (laneAt (b .lanes) lane) caller) (laneAt (b .lanes) lane .phase) (length out)) 0
     (put b lane idleLane) b
 
 -- what stands afterwards in the buffer that was lent for a take
-unfoldable pub takenBytes : Bench → (lane : ℕ) (out : List ℕ) → List ℕ
-takenBytes b lane out = ifDone (takeOf b lane out .code) (yielded (laneAt (b .lanes) lane) out) out
+unfoldable pub takenBytes : Bench → (lane caller : ℕ) (out : List ℕ) → List ℕ
+takenBytes b lane caller out = ifDone (takeOf b lane caller out .code) (yielded (laneAt (b .lanes) lane) out) out
 
-unfoldable pub closeOf : Bench → (lane : ℕ) → Answer
-closeOf b lane = answered (closeCode (soundBench b) lane) 0 (put b lane idleLane) b
+unfoldable pub closeOf : Bench → (lane caller : ℕ) → Answer
+closeOf b lane caller = answered (closeCode (soundBench b) lane (admits (laneAt (b .lanes) lane) caller)) 0 (put b lane idleLane) b

@@ -5,6 +5,7 @@ use answers::DONE;
 use lane::IDLE;
 use lane::Lane;
 use lane::RUNNING;
+use lane::admits;
 use lane::idle_lane;
 use lane::opened;
 use lane::served;
@@ -17,6 +18,7 @@ use orders::turn_code;
 ghost use mathlib.Core.Path.{_≡_};
 ghost use Prim.Native.Nat.{_<_};
 ghost use lib.ListN.{length};
+ghost use Rattle.lane.specs.Record.{admits};
 ghost use Rattle.bench.specs.Turning.{laneCount, laneAt, after, seek, chosen, turned, turnedBy, servedBy};
 ghost use Rattle.bench.specs.Calls.{freshBench, allSound, soundBench, put, openOf, turnOf, takeOf, takenBytes, closeOf};
 
@@ -152,6 +154,18 @@ fn phase_at(b: Bench, lane: u32) -> u8
     IDLE
 }
 
+// Whether it is open to a caller; a number that is no lane's counts as an idle one's.
+fn admits_at(b: Bench, lane: u32, caller: u16) -> bool
+    ensures { λ r. ⌜ r ≡ admits (laneAt (b .lanes) lane) caller ⌝ }
+{
+    let i = lane as usize;
+    if i < LANES {
+        let l = b.lanes[i];
+        return admits(l, caller);
+    }
+    true
+}
+
 // Another record put into it.
 fn put(b: Bench, i: usize, l: Lane) -> Bench
     requires { ⌜ i < laneCount ⌝ }
@@ -176,13 +190,21 @@ pub fn fresh() -> Bench
     }
 }
 
-pub fn open_lane(b: Bench, lane: u32, direction: u32, key: &[u8], block: &[u8]) -> Answer
-    ensures { λ r. ⌜ r ≡ openOf b lane direction (now (key .entry)) (now (block .entry)) ⌝ }
+pub fn open_lane(
+    b: Bench,
+    lane: u32,
+    owner: u16,
+    direction: u32,
+    key: &[u8],
+    block: &[u8],
+) -> Answer
+    ensures { λ r. ⌜ r ≡ openOf b lane owner direction (now (key .entry)) (now (block .entry)) ⌝ }
 {
     let code = open_code(
         sound(b),
         lane,
         phase_at(b, lane),
+        owner,
         direction,
         key.len(),
         block.len(),
@@ -194,7 +216,7 @@ pub fn open_lane(b: Bench, lane: u32, direction: u32, key: &[u8], block: &[u8]) 
             bench: b,
         };
     }
-    let bench = put(b, lane as usize, opened(direction as u8, key, block));
+    let bench = put(b, lane as usize, opened(owner, direction as u8, key, block));
     Answer {
         code,
         made: 0,
@@ -222,11 +244,13 @@ pub fn turn(b: Bench, asked: u32) -> Answer
     }
 }
 
-pub fn take(b: Bench, lane: u32, out: &mut [u8]) -> Answer
-    ensures { λ r. ⌜ (r ≡ takeOf b lane (now (out .entry))) × (now (out .exit) ≡ takenBytes b lane (now (out .entry))) ⌝ }
+pub fn take(b: Bench, lane: u32, owner: u16, out: &mut [u8]) -> Answer
+    ensures { λ r. ⌜ (r ≡ takeOf b lane owner (now (out .entry))) × (now (out .exit) ≡ takenBytes b lane owner (now (out .entry))) ⌝ }
 {
-    let code = take_code(sound(b), lane, phase_at(b, lane), out.len());
+    let admitted = admits_at(b, lane, owner);
+    let code = take_code(sound(b), lane, admitted, phase_at(b, lane), out.len());
     if code != DONE {
+        // the buffer stays as it was
         return Answer {
             code,
             made: 0,
@@ -244,11 +268,12 @@ pub fn take(b: Bench, lane: u32, out: &mut [u8]) -> Answer
     }
 }
 
-pub fn close(b: Bench, lane: u32) -> Answer
-    ensures { λ r. ⌜ r ≡ closeOf b lane ⌝ }
+pub fn close(b: Bench, lane: u32, owner: u16) -> Answer
+    ensures { λ r. ⌜ r ≡ closeOf b lane owner ⌝ }
 {
-    let code = close_code(sound(b), lane);
+    let code = close_code(sound(b), lane, admits_at(b, lane, owner));
     if code != DONE {
+        // the lane stays as it was
         return Answer {
             code,
             made: 0,

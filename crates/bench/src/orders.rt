@@ -8,6 +8,7 @@ use answers::BAD_LANE;
 use answers::DONE;
 use answers::LANE_NOT_FINISHED;
 use answers::LANE_NOT_IDLE;
+use answers::NOT_THE_OWNER;
 use answers::TOO_MANY_TURNS;
 use gift128::Gift128;
 use lane::DECRYPT;
@@ -19,9 +20,17 @@ ghost use Rattle.bench.specs.Orders.{openCode, turnCode, takeCode, close
 // How many turns one call may ask for.
 const MOST_TURNS: u32 = 1024;
 
-// 10, 5, 6, 9, 1, 2.
-pub fn open_code(sound: bool, lane: u32, phase: u8, direction: u32, key: usize, block: usize) -> u32
-    ensures { λ r. ⌜ r ≡ openCode sound lane phase direction key block ⌝ }
+// 10, 5, 6, 11, 9, 1, 2.
+pub fn open_code(
+    sound: bool,
+    lane: u32,
+    phase: u8,
+    owner: u16,
+    direction: u32,
+    key: usize,
+    block: usize,
+) -> u32
+    ensures { λ r. ⌜ r ≡ openCode sound lane phase owner direction key block ⌝ }
 {
     if !sound {
         return BAD_BENCH;
@@ -31,6 +40,9 @@ pub fn open_code(sound: bool, lane: u32, phase: u8, direction: u32, key: usize, 
     }
     if phase != IDLE {
         return LANE_NOT_IDLE;
+    }
+    if owner == 0 {
+        return NOT_THE_OWNER;
     }
     if (DECRYPT as u32) < direction {
         return BAD_DIRECTION;
@@ -57,15 +69,18 @@ pub fn turn_code(sound: bool, asked: u32) -> u32
     DONE
 }
 
-// 10, 5, 7, 2.
-pub fn take_code(sound: bool, lane: u32, phase: u8, out: usize) -> u32
-    ensures { λ r. ⌜ r ≡ takeCode sound lane phase out ⌝ }
+// 10, 5, 11, 7, 2.
+pub fn take_code(sound: bool, lane: u32, admitted: bool, phase: u8, out: usize) -> u32
+    ensures { λ r. ⌜ r ≡ takeCode sound lane admitted phase out ⌝ }
 {
     if !sound {
         return BAD_BENCH;
     }
     if LANES <= (lane as usize) {
         return BAD_LANE;
+    }
+    if !admitted {
+        return NOT_THE_OWNER;
     }
     if phase != FINISHED {
         return LANE_NOT_FINISHED;
@@ -76,15 +91,18 @@ pub fn take_code(sound: bool, lane: u32, phase: u8, out: usize) -> u32
     DONE
 }
 
-// 10, 5.
-pub fn close_code(sound: bool, lane: u32) -> u32
-    ensures { λ r. ⌜ r ≡ closeCode sound lane ⌝ }
+// 10, 5, 11.
+pub fn close_code(sound: bool, lane: u32, admitted: bool) -> u32
+    ensures { λ r. ⌜ r ≡ closeCode sound lane admitted ⌝ }
 {
     if !sound {
         return BAD_BENCH;
     }
     if LANES <= (lane as usize) {
         return BAD_LANE;
+    }
+    if !admitted {
+        return NOT_THE_OWNER;
     }
     DONE
 }

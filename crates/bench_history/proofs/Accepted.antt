@@ -1,11 +1,12 @@
 -- A call is refused and changes nothing, or is done: then each line of its order was passed, and it leaves what it is said to leave.
 use mathlib.Core.Path.{_≡_, refl}
+use mathlib.Core.Bool.{true}
 use mathlib.Core.List.{List, []}
 use mathlib.Core.Logic.{_≢_}
 use Prim.Native.Nat.{ℕ, _≤_, _<_}
 use lib.ListN.{length}
 use Rattle.answers.proofs.Outcome.{if-done, if-refused}
-use Rattle.lane.specs.Record.{idle, finished, idleLane, opened}
+use Rattle.lane.specs.Record.{idle, finished, admits, idleLane, opened}
 use Rattle.bench.specs.declared.Bench.{Bench}
 use Rattle.bench.specs.Turning.{laneCount, laneAt, turnedBy, servedBy}
 use Rattle.bench.specs.Calls.{put, answered, openOf, turnOf, takeOf, closeOf}
@@ -18,17 +19,17 @@ use Rattle.bench_history.specs.History.{Call, opening, turning, taking, 
 module _ (b : Bench) where
   pub refused-leaves : (c : Call) → codeOf b c ≢ 0 → leaves b c ≡ b
   unfolding answerTo openOf turnOf takeOf closeOf answered
-  refused-leaves (opening lane direction key block) ne = if-refused _ _ b ne
+  refused-leaves (opening lane owner direction key block) ne = if-refused _ _ b ne
   refused-leaves (turning asked) ne = if-refused _ _ b ne
-  refused-leaves (taking lane out) ne = if-refused _ _ b ne
-  refused-leaves (closing lane) ne = if-refused _ _ b ne
+  refused-leaves (taking lane caller out) ne = if-refused _ _ b ne
+  refused-leaves (closing lane caller) ne = if-refused _ _ b ne
 
   pub refused-tells : (c : Call) → codeOf b c ≢ 0 → tells b c ≡ 0
   unfolding answerTo openOf turnOf takeOf closeOf answered
-  refused-tells (opening lane direction key block) ne = if-refused _ _ 0 ne
+  refused-tells (opening lane owner direction key block) ne = if-refused _ _ 0 ne
   refused-tells (turning asked) ne = if-refused _ _ 0 ne
-  refused-tells (taking lane out) ne = if-refused _ _ 0 ne
-  refused-tells (closing lane) ne = if-refused _ _ 0 ne
+  refused-tells (taking lane caller out) ne = if-refused _ _ 0 ne
+  refused-tells (closing lane caller) ne = if-refused _ _ 0 ne
 
   pub refused-serves : (c : Call) → codeOf b c ≢ 0 → serves b c ≡ []
   unfolding serves
@@ -36,24 +37,26 @@ module _ (b : Bench) where
 
 -- ---- done
 
-pub record OpenDone (b : Bench) (lane direction : ℕ) (key block : List ℕ) : Type 0 where
+pub record OpenDone (b : Bench) (lane owner direction : ℕ) (key block : List ℕ) : Type 0 where
   pub sound : Sound b
   pub lane-lt : lane < laneCount
   pub was-idle : laneAt (b .lanes) lane .phase ≡ idle
+  pub owned : owner ≢ 0
   pub direction-le : direction ≤ 1
   pub key-long : length key ≡ 16
   pub block-long : length block ≡ 16
-  pub left : leaves b (opening lane direction key block) ≡ put b lane (opened direction key block)
-  pub none : serves b (opening lane direction key block) ≡ []
+  pub left : leaves b (opening lane owner direction key block) ≡ put b lane (opened owner direction key block)
+  pub none : serves b (opening lane owner direction key block) ≡ []
 
-pub opens : (b : Bench) (lane direction : ℕ) (key block : List ℕ) → codeOf b (opening lane direction key block) ≡ 0 → OpenDone b lane direction key block
+pub opens : (b : Bench) (lane owner direction : ℕ) (key block : List ℕ) → codeOf b (opening lane owner direction key block) ≡ 0 → OpenDone b lane owner direction key block
 unfolding answerTo openOf answered serves asks servedBy
-opens b lane direction key block e =
-    let p = open-passed _ lane _ direction (length key) (length block) e in
+opens b lane owner direction key block e =
+    let p = open-passed _ lane _ owner direction (length key) (length block) e in
     record {
       sound = is-sound b (p .is-sound);
       lane-lt = p .lane-lt;
       was-idle = p .was-idle;
+      owned = p .owned;
       direction-le = p .direction-le;
       key-long = p .key-long;
       block-long = p .block-long;
@@ -73,35 +76,38 @@ turns b asked e =
     let p = turn-passed _ asked e in
     record { sound = is-sound b (p .is-sound); few = p .few; left = if-done _ _ b e; logged = if-done _ _ [] e }
 
-pub record TakeDone (b : Bench) (lane : ℕ) (out : List ℕ) : Type 0 where
+pub record TakeDone (b : Bench) (lane caller : ℕ) (out : List ℕ) : Type 0 where
   pub sound : Sound b
   pub lane-lt : lane < laneCount
+  pub admitted : admits (laneAt (b .lanes) lane) caller ≡ true
   pub was-finished : laneAt (b .lanes) lane .phase ≡ finished
   pub out-long : length out ≡ 16
-  pub left : leaves b (taking lane out) ≡ put b lane idleLane
-  pub none : serves b (taking lane out) ≡ []
+  pub left : leaves b (taking lane caller out) ≡ put b lane idleLane
+  pub none : serves b (taking lane caller out) ≡ []
 
-pub takes : (b : Bench) (lane : ℕ) (out : List ℕ) → codeOf b (taking lane out) ≡ 0 → TakeDone b lane out
+pub takes : (b : Bench) (lane caller : ℕ) (out : List ℕ) → codeOf b (taking lane caller out) ≡ 0 → TakeDone b lane caller out
 unfolding answerTo takeOf answered serves asks servedBy
-takes b lane out e =
-    let p = take-passed _ lane _ (length out) e in
+takes b lane caller out e =
+    let p = take-passed _ lane _ _ (length out) e in
     record {
       sound = is-sound b (p .is-sound);
       lane-lt = p .lane-lt;
+      admitted = p .admits;
       was-finished = p .was-finished;
       out-long = p .out-long;
       left = if-done _ _ b e;
       none = if-done _ _ [] e;
     }
 
-pub record CloseDone (b : Bench) (lane : ℕ) : Type 0 where
+pub record CloseDone (b : Bench) (lane caller : ℕ) : Type 0 where
   pub sound : Sound b
   pub lane-lt : lane < laneCount
-  pub left : leaves b (closing lane) ≡ put b lane idleLane
-  pub none : serves b (closing lane) ≡ []
+  pub admitted : admits (laneAt (b .lanes) lane) caller ≡ true
+  pub left : leaves b (closing lane caller) ≡ put b lane idleLane
+  pub none : serves b (closing lane caller) ≡ []
 
-pub closings : (b : Bench) (lane : ℕ) → codeOf b (closing lane) ≡ 0 → CloseDone b lane
+pub closings : (b : Bench) (lane caller : ℕ) → codeOf b (closing lane caller) ≡ 0 → CloseDone b lane caller
 unfolding answerTo closeOf answered serves asks servedBy
-closings b lane e =
-    let p = close-passed _ lane e in
-    record { sound = is-sound b (p .is-sound); lane-lt = p .lane-lt; left = if-done _ _ b e; none = if-done _ _ [] e }
+closings b lane caller e =
+    let p = close-passed _ lane _ e in
+    record { sound = is-sound b (p .is-sound); lane-lt = p .lane-lt; admitted = p .admits; left = if-done _ _ b e; none = if-done _ _ [] e }

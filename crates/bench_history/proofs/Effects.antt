@@ -32,7 +32,7 @@ unfolding answerTo takenBytes
 refused b c ne =
     record {
       bench = refused-leaves b c ne;
-      buffer = λ lane out e. if-refused _ _ out (λ z. ne (ap (codeOf b) e ∙ z));
+      buffer = λ lane caller out e. if-refused _ _ out (λ z. ne (ap (codeOf b) e ∙ z));
       turns = refused-tells b c ne;
       log = refused-serves b c ne;
     }
@@ -46,10 +46,10 @@ data Does (b : Bench) (c : Call) : Type 0 where
 
 does : (b : Bench) (c : Call) → codeOf b c ≡ 0 → Does b c
 unfolding names asks
-does b (opening lane direction key block) e = puts lane (opened direction key block) (opens b lane direction key block e .left) (λ n. refl)
+does b (opening lane owner direction key block) e = puts lane (opened owner direction key block) (opens b lane owner direction key block e .left) (λ n. refl)
 does b (turning asked) e = makes (turns b asked e .left) (λ n. refl)
-does b (taking lane out) e = puts lane idleLane (takes b lane out e .left) (λ n. refl)
-does b (closing lane) e = puts lane idleLane (closings b lane e .left) (λ n. refl)
+does b (taking lane caller out) e = puts lane idleLane (takes b lane caller out e .left) (λ n. refl)
+does b (closing lane caller) e = puts lane idleLane (closings b lane caller e .left) (λ n. refl)
 
 done-frame : (b : Bench) (c : Call) → Does b c → Frame b c
 unfolding turnedBy

@@ -5,7 +5,9 @@ pub mod Standing
 pub mod Waiting
 pub mod Quintuples
 pub mod Effects
+pub mod Belongs
 pub mod Demand
+pub mod Guests
 pub mod OneOutcome
 mod Examples
 pub mod Wiped

@@ -42,7 +42,7 @@ last-turn t h =
       | no ne ↦ ne-eqb (t + 1) 8 (omega arith) ∙ sym (lt-leb 8 (suc t) (omega arith))
     ]
 
-module _ (direction : ℕ) (key block : List ℕ) (x-lt : fromBytes block < 2 ^ 128) where
+module _ (owner direction : ℕ) (key block : List ℕ) (x-lt : fromBytes block < 2 ^ 128) where
   -- the key's words stand for its pairs
   done : (i : ℕ) → i % 5 ≡ 0 → i < 40
       → quintupled (stateOf (rounds128 (take i (pairsOf key)) 0 (fromBytes block))) (drop (2 * i) (expanded key)) i ≡ stateOf (rounds128 (take (i + 5) (pairsOf key)) 0 (fromBytes block))
@@ -52,7 +52,7 @@ module _ (direction : ℕ) (key block : List ℕ) (x-lt : fromBytes block < 2 ^ 
       → unquintupled (stateOf (unrounds128 (drop (i + 5) (pairsOf key)) (i + 5) (fromBytes block))) (drop (2 * i) (expanded key)) i ≡ stateOf (unrounds128 (drop i (pairsOf key)) i (fromBytes block))
   undone i m l = rw (pairs-of-expanded key) at (backward (expanded key) (length-expanded key) (fromBytes block) x-lt i m l)
 
-  advance : (t : ℕ) → t < 8 → advanced (standing direction key block t) ≡ stateOf (reached direction key block (suc t))
+  advance : (t : ℕ) → t < 8 → advanced (standing owner direction key block t) ≡ stateOf (reached direction key block (suc t))
   unfolding advanced standing reached
   advance t h = go (eqb direction 0)
     where
@@ -72,23 +72,23 @@ module _ (direction : ℕ) (key block : List ℕ) (x-lt : fromBytes block < 2 ^ 
           let now : 40 - 5 * suc t ≡ 35 - 5 * t = omega arith in
           rw (before, now) (undone (35 - 5 * t) (omega arith) (omega arith))
 
-  serve : (t : ℕ) → t < 8 → served (standing direction key block t) ≡ standing direction key block (suc t)
+  serve : (t : ℕ) → t < 8 → served (standing owner direction key block t) ≡ standing owner direction key block (suc t)
   unfolding served standing
   serve t h =
       cond-true (ltb t 8) _ _ (lt-ltb t 8 h)
-      ∙ λ i. record { phase = cond (last-turn t h i) finished running; direction = direction; count = add-one t i; words = expanded key; state = advance t h i }
+      ∙ λ i. record { phase = cond (last-turn t h i) finished running; direction = direction; owner = owner; count = add-one t i; words = expanded key; state = advance t h i }
 
-  start : length key ≡ 16 → length block ≡ 16 → opened direction key block ≡ standing direction key block 0
+  start : length key ≡ 16 → length block ≡ 16 → opened owner direction key block ≡ standing owner direction key block 0
   unfolding standing reached rounds
   start k b =
-      opened-on direction key block k b
-      ∙ λ i. record { phase = running; direction = direction; count = 0; words = expanded key; state = same (eqb direction 0) i }
+      opened-on owner direction key block k b
+      ∙ λ i. record { phase = running; direction = direction; owner = owner; count = 0; words = expanded key; state = same (eqb direction 0) i }
     where
       same : (f : Bool) → stateOf (fromBytes block) ≡ stateOf (cond f (fromBytes block) (unrounds128 (drop 40 (pairsOf key)) 40 (fromBytes block)))
       same true = refl
       same false = rw (pairs-of-expanded key) at (none-undone (expanded key) (length-expanded key) (fromBytes block) x-lt)
 
-  pub reach : length key ≡ 16 → length block ≡ 16 → (t : ℕ) → t ≤ 8 → servedTimes t (opened direction key block) ≡ standing direction key block t
+  pub reach : length key ≡ 16 → length block ≡ 16 → (t : ℕ) → t ≤ 8 → servedTimes t (opened owner direction key block) ≡ standing owner direction key block t
   unfolding servedTimes
   reach k b zero h = start k b
   reach k b (suc t) h = ap served (reach k b t (omega arith)) ∙ serve t h

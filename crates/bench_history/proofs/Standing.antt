@@ -14,14 +14,15 @@ use Rattle.bits.proofs.Computed.{cond-true, cond-false}
 use Rattle.bits.proofs.Truth.{both}
 use Rattle.lane.specs.declared.Lane.{Lane}
 use Rattle.lane.specs.Record.{idle, running, soundLane, served}
-use Rattle.lane.proofs.Records.{served-count, served-busy}
+use Rattle.lane.proofs.Records.{served-count, served-busy, served-owner}
 use Rattle.bench.specs.declared.Bench.{Bench}
 use Rattle.bench.specs.Turning.{laneAt, chosen, anyRuns, turned, turnedBy, servedBy}
 use Rattle.bench.proofs.Soundness.{Sound, set-here, set-there}
 use Rattle.bench.proofs.Seeking.{chosen-lt}
 use Rattle.bench.proofs.Made.{turned-is, chosen-phase, chosen-sound, by-turns}
 use Rattle.bench_history.specs.History.{Call, leaves, serves, run, log, times, releases, never, servedTimes}
-use Rattle.bench_history.proofs.Touched.{sound-leaves, Touch, touch, same, entered, left, served as serving}
+use Rattle.bench_history.specs.Promises.{BusyFor}
+use Rattle.bench_history.proofs.Touched.{sound-leaves, Touch, touch, left-by, same, entered, left, served as serving}
 
 -- ---- counting in a log
 
@@ -57,11 +58,12 @@ module _ (b : Bench) (any : anyRuns b ≡ true) (n : ℕ) where
 pub record After (l : Lane) (t : ℕ) (m : Lane) : Type 0 where
   pub is : m ≡ servedTimes t l
   pub counted : m .count ≡ l .count + t
+  pub owner : m .owner ≡ l .owner
   pub busy : l .phase ≢ idle → m .phase ≢ idle
 
 stays : (l m : Lane) → m ≡ l → After l 0 m
 unfolding servedTimes
-stays l m e = record { is = e; counted = ap (λ (k : Lane). k .count) e ∙ sym (add-zero (l .count)); busy = λ ne p. ne (sym (ap (λ (k : Lane). k .phase) e) ∙ p) }
+stays l m e = record { is = e; counted = ap (λ (k : Lane). k .count) e ∙ sym (add-zero (l .count)); owner = ap (λ (k : Lane). k .owner) e; busy = λ ne p. ne (sym (ap (λ (k : Lane). k .phase) e) ∙ p) }
 
 one-turn : (l m : Lane) → soundLane l ≡ true → l .phase ≡ running → m ≡ served l → After l 1 m
 unfolding servedTimes
@@ -69,6 +71,7 @@ one-turn l m s r e =
     record {
       is = e;
       counted = ap (λ (k : Lane). k .count) e ∙ served-count l s r;
+      owner = ap (λ (k : Lane). k .owner) e ∙ served-owner l;
       busy = λ ne p. served-busy l s r (sym (ap (λ (k : Lane). k .phase) e) ∙ p);
     }
 
@@ -83,6 +86,7 @@ then l m r t u v e p q =
     record {
       is = q .is ∙ ap (servedTimes u) (p .is) ∙ times-then t u l ∙ ap (λ (k : ℕ). servedTimes k l) (sym e);
       counted = omega (arith, e, p .counted, q .counted);
+      owner = q .owner ∙ p .owner;
       busy = λ ne. q .busy (p .busy ne);
     }
 
@@ -119,13 +123,13 @@ turns-wake-none n = by-turns (λ k b is e. laneAt (e .lanes) n .phase ≢ idle �
 
 -- ---- over any calls
 
-pub stand : (n : ℕ) (cs : List Call) (b : Bench) → Sound b → laneAt (b .lanes) n .phase ≢ idle → never (releases n) b cs ≡ true
+pub stand : (n w : ℕ) (cs : List Call) (b : Bench) → Sound b → BusyFor w (laneAt (b .lanes) n) → never (releases n w) b cs ≡ true
     → After (laneAt (b .lanes) n) (times n (log b cs)) (laneAt (run b cs .lanes) n)
 unfolding run log times never
-stand n [] b s busy kept = stays (laneAt (b .lanes) n) (laneAt (b .lanes) n) refl
-stand n (c ∷ cs) b s busy kept =
-    let later : never (releases n) (leaves b c) cs ≡ true = both (not (releases n b c)) _ kept .1 in
-    go (touch n b c) (λ ne. stand n cs (leaves b c) (sound-leaves b c s) ne later)
+stand n w [] b s for kept = stays (laneAt (b .lanes) n) (laneAt (b .lanes) n) refl
+stand n w (c ∷ cs) b s for kept =
+    let later : never (releases n w) (leaves b c) cs ≡ true = both (not (releases n w b c)) _ kept .1 in
+    go (touch n b c) (λ own. stand n w cs (leaves b c) (sound-leaves b c s) own later)
   where
     l : Lane
     l = laneAt (b .lanes) n
@@ -137,12 +141,16 @@ stand n (c ∷ cs) b s busy kept =
     r = laneAt (run (leaves b c) cs .lanes) n
 
     -- the first call and the others
-    first : (t : ℕ) → times n (serves b c) ≡ t → After l t m → (m .phase ≢ idle → After m (times n (log (leaves b c) cs)) r)
+    first : (t : ℕ) → times n (serves b c) ≡ t → After l t m → (BusyFor w m → After m (times n (log (leaves b c) cs)) r)
         → After l (times n (serves b c ++ log (leaves b c) cs)) r
-    first t e one more = then l m r t _ _ (times-append n (serves b c) (log (leaves b c) cs) ∙ ap (λ (k : ℕ). k + times n (log (leaves b c) cs)) e) one (more (one .busy busy))
+    first t e one more =
+        then l m r t _ _ (times-append n (serves b c) (log (leaves b c) cs) ∙ ap (λ (k : ℕ). k + times n (log (leaves b c) cs)) e) one
+        (more (record { busy = one .busy (for .busy); owner = one .owner ∙ for .owner }))
 
-    go : Touch n b c → (m .phase ≢ idle → After m (times n (log (leaves b c) cs)) r) → After l (times n (serves b c ++ log (leaves b c) cs)) r
+    go : Touch n b c → (BusyFor w m → After m (times n (log (leaves b c) cs)) r) → After l (times n (serves b c ++ log (leaves b c) cs)) r
     go (same h) more = first 0 (ap (times n) (h .none)) (stays l m (h .lane)) more
-    go (entered h) more = absurd (busy (h .was-idle))
-    go (left h) more = absurd (false≢true (sym (not-true (releases n b c) (both (not (releases n b c)) _ kept .0)) ∙ h .released))
+    go (entered h) more = absurd (for .busy (h .was-idle))
+    go (left h) more =
+        absurd
+        (false≢true (sym (not-true (releases n w b c) (both (not (releases n w b c)) _ kept .0)) ∙ ap (λ (u : ℕ). releases n u b c) (sym (left-by n b c w for h)) ∙ h .released))
     go (serving asked e h k) more = first (times n (servedBy asked b)) (ap (times n) h) (rw e (stand-turns n asked b s)) more

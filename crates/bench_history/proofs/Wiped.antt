@@ -30,11 +30,11 @@ use Rattle.bench_history.proofs.Demand.{ever-sound, run-append, held}
 
 -- ---- after an accepted take or close, the lane is the idle one
 
-pub taken-wiped : (b : Bench) (lane : ℕ) (out : List ℕ) → codeOf b (taking lane out) ≡ 0 → laneAt (leaves b (taking lane out) .lanes) lane ≡ idleLane
-taken-wiped b lane out e = let o = takes b lane out e in rw (o .left) (put-here b lane idleLane (o .sound) (o .lane-lt))
+pub taken-wiped : (b : Bench) (lane caller : ℕ) (out : List ℕ) → codeOf b (taking lane caller out) ≡ 0 → laneAt (leaves b (taking lane caller out) .lanes) lane ≡ idleLane
+taken-wiped b lane caller out e = let o = takes b lane caller out e in rw (o .left) (put-here b lane idleLane (o .sound) (o .lane-lt))
 
-pub closed-wiped : (b : Bench) (lane : ℕ) → codeOf b (closing lane) ≡ 0 → laneAt (leaves b (closing lane) .lanes) lane ≡ idleLane
-closed-wiped b lane e = let o = closings b lane e in rw (o .left) (put-here b lane idleLane (o .sound) (o .lane-lt))
+pub closed-wiped : (b : Bench) (lane caller : ℕ) → codeOf b (closing lane caller) ≡ 0 → laneAt (leaves b (closing lane caller) .lanes) lane ≡ idleLane
+closed-wiped b lane caller e = let o = closings b lane caller e in rw (o .left) (put-here b lane idleLane (o .sound) (o .lane-lt))
 
 -- ---- a sound bench
 
@@ -43,11 +43,11 @@ module _ (b : Bench) (ok : soundBench b ≡ true) (eighty : Eighty b) where
   pub idle-wiped : (n : ℕ) → n < laneCount → laneAt (b .lanes) n .phase ≡ idle → laneAt (b .lanes) n ≡ idleLane
   idle-wiped n h e = zero-is-idle (laneAt (b .lanes) n) (eighty n h) (sym (idle-is (laneAt (b .lanes) n) e) ∙ is-sound b ok .each n h)
 
-  -- closing an idle lane changes nothing
-  pub closing-idle : (n : ℕ) → laneAt (b .lanes) n .phase ≡ idle → codeOf b (closing n) ≡ 0 → leaves b (closing n) ≡ b
+  -- closing an idle lane changes nothing, whoever does it
+  pub closing-idle : (n caller : ℕ) → laneAt (b .lanes) n .phase ≡ idle → codeOf b (closing n caller) ≡ 0 → leaves b (closing n caller) ≡ b
   unfolding put
-  closing-idle n e done =
-      let o = closings b n done in
+  closing-idle n caller e done =
+      let o = closings b n caller done in
       o .left ∙ ap (λ (ls : List Lane). record { lanes = ls; last = b .last }) (ap (set (b .lanes) n) (sym (idle-wiped n (o .lane-lt) e)) ∙ set-getD (b .lanes) n _)
 
   -- with all lanes idle, it is the fresh bench but for the last served number
@@ -84,10 +84,10 @@ eighty-leaves b c s eighty n h = go (touch n b c)
     go : Touch n b c → length (laneAt (leaves b c .lanes) n .words) ≡ 80
     go (same t) = ap (λ (l : Lane). length (l .words)) (t .lane) ∙ eighty n h
     go (entered t) =
-        let o = opens b n (t .direction) (t .key) (t .block) (rw (t .call) at (t .accepted)) in
+        let o = opens b n (t .owner) (t .direction) (t .key) (t .block) (rw (t .call) at (t .accepted)) in
         ap (λ (d : Call). length (laneAt (leaves b d .lanes) n .words)) (t .call)
         ∙ ap (λ (d : Bench). length (laneAt (d .lanes) n .words)) (o .left)
-        ∙ ap (λ (l : Lane). length (l .words)) (put-here b n (opened (t .direction) (t .key) (t .block)) (o .sound) (o .lane-lt)) ∙ new-words (t .key)
+        ∙ ap (λ (l : Lane). length (l .words)) (put-here b n (opened (t .owner) (t .direction) (t .key) (t .block)) (o .sound) (o .lane-lt)) ∙ new-words (t .key)
     go (left t) = ap (λ (l : Lane). length (l .words)) (t .wiped)
     go (serving asked e l z) =
         ap (λ (d : Bench). length (laneAt (d .lanes) n .words)) e
@@ -116,7 +116,7 @@ entered-enters : (n : ℕ) (b : Bench) (c : Call) → Entered n b c → enters n
 unfolding enters answerTo
 entered-enters n b c t =
     ap (enters n b) (t .call)
-    ∙ together (eqb n n) _ (eq-eqb n n refl) (eq-eqb (openOf b n (t .direction) (t .key) (t .block) .code) DONE (rw (t .call) at (t .accepted)))
+    ∙ together (eqb n n) _ (eq-eqb n n refl) (eq-eqb (openOf b n (t .owner) (t .direction) (t .key) (t .block) .code) DONE (rw (t .call) at (t .accepted)))
 
 idle-stays : (n : ℕ) (cs : List Call) (b : Bench) → Sound b → laneAt (b .lanes) n .phase ≡ idle → never (enters n) b cs ≡ true
     → laneAt (run b cs .lanes) n .phase ≡ idle
@@ -136,12 +136,12 @@ idle-stays n (c ∷ cs) b s e k =
           | no ne ↦ absurd (turns-wake-none n asked b s (rw f at ne) e)
         ]
 
-released-idle : (n : ℕ) (b : Bench) (c : Call) → releases n b c ≡ true → Touch n b c → laneAt (leaves b c .lanes) n .phase ≡ idle
+released-idle : (n w : ℕ) (b : Bench) (c : Call) → releases n w b c ≡ true → Touch n b c → laneAt (leaves b c .lanes) n .phase ≡ idle
 unfolding releases idleLane
-released-idle n b c r (same t) = absurd (false≢true (sym (t .kept) ∙ r))
-released-idle n b c r (entered t) = absurd (false≢true (sym (ap (releases n b) (t .call)) ∙ r))
-released-idle n b c r (left t) = ap (λ (l : Lane). l .phase) (t .wiped)
-released-idle n b c r (serving asked f l z) = absurd (false≢true (sym z ∙ r))
+released-idle n w b c r (same t) = absurd (false≢true (sym (t .kept w) ∙ r))
+released-idle n w b c r (entered t) = absurd (false≢true (sym (ap (releases n w b) (t .call)) ∙ r))
+released-idle n w b c r (left t) = ap (λ (l : Lane). l .phase) (t .wiped)
+released-idle n w b c r (serving asked f l z) = absurd (false≢true (sym (z w) ∙ r))
 
 -- a lane that was taken from or closed, and not opened since, is all zero
 pub released-wiped : (cs : List Call) (n : ℕ) → n < laneCount → Released cs n → laneAt (run freshBench cs .lanes) n ≡ idleLane
@@ -149,7 +149,7 @@ unfolding run
 released-wiped cs n h r =
     let b : Bench = run freshBench (r .before) in
     let s : Sound b = is-sound b (ever-sound (r .before)) in
-    let e = idle-stays n (r .since) (leaves b (r .by)) (sound-leaves b (r .by) s) (released-idle n b (r .by) (r .released) (touch n b (r .by))) (r .unopened) in
+    let e = idle-stays n (r .since) (leaves b (r .by)) (sound-leaves b (r .by) s) (released-idle n (r .caller) b (r .by) (r .released) (touch n b (r .by))) (r .unopened) in
     idle-wiped (run freshBench cs) (ever-sound cs) (ever-eighty cs) n h
     (ap (λ (ds : List Call). laneAt (run freshBench ds .lanes) n .phase) (sym (r .whole))
     ∙ ap (λ (d : Bench). laneAt (d .lanes) n .phase) (run-append (r .before) (r .by ∷ r .since) freshBench) ∙ e)

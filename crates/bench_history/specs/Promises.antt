@@ -1,12 +1,13 @@
 -- What is promised of every history that starts with a fresh bench: where an opened lane stands after t turns of its own, what it yields and when,
--- that no lane escapes, what turns do, and what no call does.
+-- that no lane escapes, whose a lane is, what turns do, and what no call does.
 use mathlib.Core.Path.{_≡_}
 use mathlib.Core.Bool.{true, false, cond}
 use mathlib.Core.List.{List, [], _∷_, _++_}
+use mathlib.Core.Logic.{_≢_}
 use Prim.Native.Nat.{ℕ, _+_, _-_, _*_, _≤_, _<_, min}
 use lib.Dec.{eqb, leb}
 use lib.ListN.{length, take, drop, replicate}
-use Rattle.answers.specs.Numbers.{DONE, LANE_NOT_FINISHED}
+use Rattle.answers.specs.Numbers.{DONE, BAD_BLOCK_LENGTH, LANE_NOT_FINISHED, NOT_THE_OWNER}
 use Rattle.published.specs.Bytes.{readBlock}
 use Rattle.published.specs.Gift128.{pairsOf, rounds128, unrounds128, encrypted, decrypted}
 use Rattle.primitives.specs.Packed.{stateOf}
@@ -15,7 +16,7 @@ use Rattle.lane.specs.declared.Lane.{Lane}
 use Rattle.lane.specs.Record.{idle, running, finished, lacks}
 use Rattle.bench.specs.declared.Bench.{Bench}
 use Rattle.bench.specs.Turning.{laneCount, laneAt, total}
-use Rattle.bench.specs.Calls.{freshBench, turnOf, takeOf, takenBytes}
+use Rattle.bench.specs.Calls.{freshBench, turnOf, takeOf, takenBytes, closeOf}
 use Rattle.bench_history.specs.History.{Call, opening, turning, taking, codeOf, leaves, tells, asks, serves, run, log, times, lastOf, enters, closes, releases, never, names, servedTimes}
 
 -- ---- what a lane's record is to be
@@ -28,15 +29,20 @@ reached direction key block t =
     (unrounds128 (drop (40 - 5 * t) (pairsOf key)) (40 - 5 * t) (readBlock block))
 
 -- the whole record then: running until the eighth turn, and finished with it
-unfoldable pub standing : ℕ → List ℕ → List ℕ → ℕ → Lane
-standing direction key block t =
+unfoldable pub standing : (owner direction : ℕ) (key block : List ℕ) → ℕ → Lane
+standing owner direction key block t =
     record {
       phase = cond (leb 8 t) finished running;
       direction = direction;
+      owner = owner;
       count = t;
       words = expanded key;
       state = stateOf (reached direction key block t);
     }
+
+-- the same record under another owner
+unfoldable pub owning : ℕ → Lane → Lane
+owning w l = record { phase = l .phase; direction = l .direction; owner = w; count = l .count; words = l .words; state = l .state }
 
 -- what a lane yields in the end
 unfoldable pub answer : ℕ → List ℕ → List ℕ → List ℕ
@@ -47,13 +53,14 @@ answer direction key block = cond (eqb direction 0) (encrypted key block) (decry
 pub record Opening : Type 0 where
   pub before : List Call
   pub lane : ℕ
+  pub owner : ℕ
   pub direction : ℕ
   pub key : List ℕ
   pub block : List ℕ
   pub since : List Call
 
 abbrev pub call : Opening → Call
-call o = opening (o .lane) (o .direction) (o .key) (o .block)
+call o = opening (o .lane) (o .owner) (o .direction) (o .key) (o .block)
 
 -- all calls, and the bench after them
 abbrev pub calls : Opening → List Call
@@ -76,27 +83,66 @@ made o = log (left o) (o .since)
 abbrev pub own : Opening → ℕ
 own o = times (o .lane) (made o)
 
--- the opening is done; since then the lane was not closed; since then it was neither closed nor taken from
+-- The opening is done; since then the lane was not closed with the number that opened it; since then it was neither closed nor taken from with
+-- that number. What others try with theirs is not asked about.
 abbrev pub Accepted : Opening → Type 0
 Accepted o = codeOf (finds o) (call o) ≡ DONE
 
 abbrev pub Unclosed : Opening → Type 0
-Unclosed o = never (closes (o .lane)) (left o) (o .since) ≡ true
+Unclosed o = never (closes (o .lane) (o .owner)) (left o) (o .since) ≡ true
 
 abbrev pub Kept : Opening → Type 0
-Kept o = never (releases (o .lane)) (left o) (o .since) ≡ true
+Kept o = never (releases (o .lane) (o .owner)) (left o) (o .since) ≡ true
 
--- Of a lane that was opened and kept: after t turns of its own it stands at 5t rounds, before the eighth a take gives 7 and no bytes, and
--- after the eighth a take gives the answer.
+-- ---- whose a lane is
+
+-- it is busy, and w is its owner
+pub record BusyFor (w : ℕ) (l : Lane) : Type 0 where
+  pub busy : l .phase ≢ idle
+  pub owner : l .owner ≡ w
+
+-- a take or close of lane n with this number gives 11, and changes nothing
+pub record ShutTo (caller : ℕ) (b : Bench) (n : ℕ) : Type 0 where
+  pub take : (out : List ℕ) → (takeOf b n caller out ≡ record { code = NOT_THE_OWNER; made = 0; bench = b }) × (takenBytes b n caller out ≡ out)
+  pub close : closeOf b n caller ≡ record { code = NOT_THE_OWNER; made = 0; bench = b }
+
+-- a take of lane n with this number gives 7, and changes nothing
+abbrev pub Early : ℕ → Bench → ℕ → Type 0
+Early caller b n = (out : List ℕ) → (takeOf b n caller out ≡ record { code = LANE_NOT_FINISHED; made = 0; bench = b }) × (takenBytes b n caller out ≡ out)
+
+-- The table of refusal 11, of lane n: what a take or close of it gives to anyone while it is idle, to its owner, and to any other number, 0 among them.
+pub record Admission (b : Bench) (n : ℕ) : Type 0 where
+  pub idle-take : laneAt (b .lanes) n .phase ≡ idle → (caller : ℕ) → Early caller b n
+  pub idle-close : laneAt (b .lanes) n .phase ≡ idle → (caller : ℕ) → closeOf b n caller .code ≡ DONE
+  pub own-early : (w : ℕ) → BusyFor w (laneAt (b .lanes) n) → laneAt (b .lanes) n .phase ≡ running → Early w b n
+  pub own-wrong : (w : ℕ) → BusyFor w (laneAt (b .lanes) n) → laneAt (b .lanes) n .phase ≡ finished → (out : List ℕ) → length out ≢ 16
+      → (takeOf b n w out ≡ record { code = BAD_BLOCK_LENGTH; made = 0; bench = b }) × (takenBytes b n w out ≡ out)
+  pub own-take : (w : ℕ) → BusyFor w (laneAt (b .lanes) n) → laneAt (b .lanes) n .phase ≡ finished → (out : List ℕ) → length out ≡ 16 → takeOf b n w out .code ≡ DONE
+  pub own-close : (w : ℕ) → BusyFor w (laneAt (b .lanes) n) → closeOf b n w .code ≡ DONE
+  pub others : (w : ℕ) → BusyFor w (laneAt (b .lanes) n) → (caller : ℕ) → caller ≢ w → ShutTo caller b n
+
+-- A call leaves a busy lane idle, or to its owner.
+abbrev pub OwnerStays : Bench → Call → Type 0
+OwnerStays b c = (n w : ℕ) → BusyFor w (laneAt (b .lanes) n) → laneAt (leaves b c .lanes) n .phase ≢ idle → laneAt (leaves b c .lanes) n .owner ≡ w
+
+-- A busy lane is its owner's over any calls but a take or close, accepted, with its owner's number.
+abbrev pub Belongs : Bench → List Call → Type 0
+Belongs b cs = (n w : ℕ) → BusyFor w (laneAt (b .lanes) n) → never (releases n w) b cs ≡ true → BusyFor w (laneAt (run b cs .lanes) n)
+
+-- ---- demand 3
+
+-- Of a lane that was opened and kept: after t turns of its own it stands at 5t rounds, before the eighth a take by its owner gives 7 and no bytes,
+-- after the eighth a take by its owner gives the answer, and to any other number it is shut.
 pub record Stands (o : Opening) : Type 0 where
   pub at-most : own o ≤ 8
-  pub stands : laneAt (end o .lanes) (o .lane) ≡ standing (o .direction) (o .key) (o .block) (own o)
-  pub early : own o < 8 → (out : List ℕ) → (takeOf (end o) (o .lane) out ≡ record { code = LANE_NOT_FINISHED; made = 0; bench = end o }) × (takenBytes (end o) (o .lane) out ≡ out)
+  pub stands : laneAt (end o .lanes) (o .lane) ≡ standing (o .owner) (o .direction) (o .key) (o .block) (own o)
+  pub early : own o < 8 → Early (o .owner) (end o) (o .lane)
   pub ready : own o ≡ 8 → (out : List ℕ) → length out ≡ 16
-      → (takeOf (end o) (o .lane) out .code ≡ DONE) × (takenBytes (end o) (o .lane) out ≡ answer (o .direction) (o .key) (o .block))
-  pub only-ready : (out : List ℕ) → takeOf (end o) (o .lane) out .code ≡ DONE → own o ≡ 8
+      → (takeOf (end o) (o .lane) (o .owner) out .code ≡ DONE) × (takenBytes (end o) (o .lane) (o .owner) out ≡ answer (o .direction) (o .key) (o .block))
+  pub only-ready : (caller : ℕ) (out : List ℕ) → takeOf (end o) (o .lane) caller out .code ≡ DONE → own o ≡ 8
+  pub others : (caller : ℕ) → caller ≢ o .owner → ShutTo caller (end o) (o .lane)
 
--- Of a lane that was opened and not closed: among the first 128 turns made on the bench since, eight for each lane, eight are its own.
+-- Of a lane that was opened and not closed by its owner: among the first 128 turns made on the bench since, eight for each lane, eight are its own.
 abbrev pub InTime : Opening → Type 0
 InTime o = laneCount * 8 ≤ length (made o) → 8 ≤ times (o .lane) (take (laneCount * 8) (made o))
 
@@ -124,7 +170,7 @@ pub record Turning (b : Bench) (asked : ℕ) : Type 0 where
 -- A refused call changes nothing lent, and tells no turn.
 pub record Refused (b : Bench) (c : Call) : Type 0 where
   pub bench : leaves b c ≡ b
-  pub buffer : (lane : ℕ) (out : List ℕ) → c ≡ taking lane out → takenBytes b lane out ≡ out
+  pub buffer : (lane caller : ℕ) (out : List ℕ) → c ≡ taking lane caller out → takenBytes b lane caller out ≡ out
   pub turns : tells b c ≡ 0
   pub log : serves b c ≡ []
 
@@ -147,7 +193,8 @@ AllIdle b = (n : ℕ) → n < laneCount → laneAt (b .lanes) n .phase ≡ idle
 pub record Released (cs : List Call) (n : ℕ) : Type 0 where
   pub before : List Call
   pub by : Call
+  pub caller : ℕ
   pub since : List Call
   pub whole : before ++ by ∷ since ≡ cs
-  pub released : releases n (run freshBench before) by ≡ true
+  pub released : releases n caller (run freshBench before) by ≡ true
   pub unopened : never (enters n) (leaves (run freshBench before) by) since ≡ true

@@ -1,4 +1,4 @@
--- What a call changes: one record. A turn and going idle leave its round words as they are, so that the rest of it is all there is to store.
+-- What a turn changes: one record. It leaves its owner and its round words as they are, so that the rest of it is all there is to store.
 use mathlib.Core.Path.{_≡_, refl, sym, ap, _∙_}
 use mathlib.Core.Bool.{Bool, true, false, cond}
 use mathlib.Core.List.{List}

@@ -14,17 +14,17 @@ use Rattle.bench_lent.specs.Lent.{benchOf, Opens, Serves, Takes, Closes}
 both : {A B : Type 0} {a x x′ : A} {b y y′ : B} → (x ≡ a) × (y ≡ b) → (x′ ≡ a) × (y′ ≡ b) → (x ≡ x′) × (y ≡ y′)
 both p q = (one-answer (p .0) (q .0), one-answer (p .1) (q .1))
 
-module _ (ls : List Lane) (last lane direction asked : ℕ) (key block out : List ℕ) where
-  pub open-lane : (r r′ : ℕ) (e e′ : List Lane) → Opens ls last lane direction key block r e → Opens ls last lane direction key block r′ e′ → (r ≡ r′) × (e ≡ e′)
+module _ (ls : List Lane) (last lane owner direction asked : ℕ) (key block out : List ℕ) where
+  pub open-lane : (r r′ : ℕ) (e e′ : List Lane) → Opens ls last lane owner direction key block r e → Opens ls last lane owner direction key block r′ e′ → (r ≡ r′) × (e ≡ e′)
   open-lane r r′ e e′ = both
 
   pub turn : (r r′ : Turns) (e e′ : List Lane) → Serves ls last asked r e → Serves ls last asked r′ e′ → (r ≡ r′) × (e ≡ e′)
   turn r r′ e e′ = both
 
-  pub take : (r r′ : ℕ) (e e′ : List Lane) (u u′ : List ℕ) → Takes ls last lane out r e u → Takes ls last lane out r′ e′ u′ → (r ≡ r′) × (e ≡ e′) × (u ≡ u′)
+  pub take : (r r′ : ℕ) (e e′ : List Lane) (u u′ : List ℕ) → Takes ls last lane owner out r e u → Takes ls last lane owner out r′ e′ u′ → (r ≡ r′) × (e ≡ e′) × (u ≡ u′)
   take r r′ e e′ u u′ p q = let h = both (p .0) (q .0) in (h .0, h .1, one-answer (p .1) (q .1))
 
-  pub close : (r r′ : ℕ) (e e′ : List Lane) → Closes ls last lane r e → Closes ls last lane r′ e′ → (r ≡ r′) × (e ≡ e′)
+  pub close : (r r′ : ℕ) (e e′ : List Lane) → Closes ls last lane owner r e → Closes ls last lane owner r′ e′ → (r ≡ r′) × (e ≡ e′)
   close r r′ e e′ = both
 
   abbrev b : Bench
@@ -39,14 +39,14 @@ module _ (ls : List Lane) (last lane direction asked : ℕ) (key block out : Lis
       go true = e
       go false = refl
 
-  pub open-stays : openOf b lane direction key block .bench .last ≡ last
+  pub open-stays : openOf b lane owner direction key block .bench .last ≡ last
   unfolding openOf put
   open-stays = stays _ _ _ refl
 
-  pub take-stays : takeOf b lane out .bench .last ≡ last
+  pub take-stays : takeOf b lane owner out .bench .last ≡ last
   unfolding takeOf put
   take-stays = stays _ _ _ refl
 
-  pub close-stays : closeOf b lane .bench .last ≡ last
+  pub close-stays : closeOf b lane owner .bench .last ≡ last
   unfolding closeOf put
   close-stays = stays _ _ _ refl

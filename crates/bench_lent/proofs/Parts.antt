@@ -9,7 +9,7 @@ use Rattle.bench.specs.Orders.{openCode, takeCode, closeCode}
 use Rattle.bench_lent.specs.Lent.{benchOf, Serves, Closes}
 use Rattle.bench_lent.specs.Inner.{Starts, Notes, Sees, Passes, Begins, Goes, renewed}
 use Rattle.bench_lent.proofs.Plain.{truth, nothing}
-use Rattle.bench_lent.proofs.Records.{byte, word, size, lane, seen, place, turns, run}
+use Rattle.bench_lent.proofs.Records.{byte, half, word, size, lane, seen, place, turns, run}
 use Rattle.bench_lent.proofs.Calling.{Function, freely, that}
 use Rattle.bench_lent.proofs.Lending.{Lent}
 
@@ -26,28 +26,33 @@ IdleLane = record { params = []; result = lane; Asks = λ a. freely; Right = λ 
 
 abbrev pub OpenCode : Function
 OpenCode = record {
-  params = truth ∷ word ∷ byte ∷ word ∷ size ∷ size ∷ [];
+  params = truth ∷ word ∷ byte ∷ half ∷ word ∷ size ∷ size ∷ [];
   result = word;
   Asks = λ a. freely;
-  Right = λ a r. r ≡ openCode (a .0) (a .1 .0) (a .1 .1 .0) (a .1 .1 .1 .0) (a .1 .1 .1 .1 .0) (a .1 .1 .1 .1 .1 .0);
+  Right = λ a r. r ≡ openCode (a .0) (a .1 .0) (a .1 .1 .0) (a .1 .1 .1 .0) (a .1 .1 .1 .1 .0) (a .1 .1 .1 .1 .1 .0) (a .1 .1 .1 .1 .1 .1 .0);
 }
 
 abbrev pub TakeCode : Function
 TakeCode = record {
-  params = truth ∷ word ∷ byte ∷ size ∷ [];
+  params = truth ∷ word ∷ truth ∷ byte ∷ size ∷ [];
   result = word;
   Asks = λ a. freely;
-  Right = λ a r. r ≡ takeCode (a .0) (a .1 .0) (a .1 .1 .0) (a .1 .1 .1 .0);
+  Right = λ a r. r ≡ takeCode (a .0) (a .1 .0) (a .1 .1 .0) (a .1 .1 .1 .0) (a .1 .1 .1 .1 .0);
 }
 
 abbrev pub CloseCode : Function
-CloseCode = record { params = truth ∷ word ∷ []; result = word; Asks = λ a. freely; Right = λ a r. r ≡ closeCode (a .0) (a .1 .0) }
+CloseCode = record { params = truth ∷ word ∷ truth ∷ []; result = word; Asks = λ a. freely; Right = λ a r. r ≡ closeCode (a .0) (a .1 .0) (a .1 .1 .0) }
 
 abbrev pub Unseen : Function
 Unseen = record { params = size ∷ word ∷ []; result = seen; Asks = λ a. freely; Right = λ a r. Starts (a .0) (a .1 .0) r }
 
 abbrev pub Noted : Function
-Noted = record { params = seen ∷ lane ∷ word ∷ []; result = seen; Asks = λ a. that (a .0 .next < laneCount); Right = λ a r. Notes (a .0) (a .1 .0) (a .1 .1 .0) r }
+Noted = record {
+  params = seen ∷ lane ∷ word ∷ half ∷ [];
+  result = seen;
+  Asks = λ a. that (a .0 .next < laneCount);
+  Right = λ a r. Notes (a .0) (a .1 .0) (a .1 .1 .0) (a .1 .1 .1 .0) r;
+}
 
 abbrev pub Passed : Function
 Passed = record { params = place ∷ lane ∷ []; result = place; Asks = λ a. that (0 < a .0 .left); Right = λ a r. Passes (a .0) (a .1 .0) r }
@@ -80,7 +85,7 @@ Renew = record {
 }
 
 abbrev pub Look : Lent
-Look = record { params = word ∷ word ∷ []; result = seen; Asks = λ κs ys a. freely; Right = λ κs ys a r zs. Sees ys (a .0) (a .1 .0) r × (zs ≡ ys) }
+Look = record { params = word ∷ word ∷ half ∷ []; result = seen; Asks = λ κs ys a. freely; Right = λ κs ys a r zs. Sees ys (a .0) (a .1 .0) (a .1 .1 .0) r × (zs ≡ ys) }
 
 abbrev pub Seek : Lent
 Seek = record {
@@ -102,4 +107,4 @@ abbrev pub Turn : Lent
 Turn = record { params = word ∷ word ∷ []; result = turns; Asks = λ κs ys a. freely; Right = λ κs ys a r zs. Serves ys (a .0) (a .1 .0) r zs }
 
 abbrev pub Close : Lent
-Close = record { params = word ∷ word ∷ []; result = word; Asks = λ κs ys a. freely; Right = λ κs ys a r zs. Closes ys (a .0) (a .1 .0) r zs }
+Close = record { params = word ∷ word ∷ half ∷ []; result = word; Asks = λ κs ys a. freely; Right = λ κs ys a r zs. Closes ys (a .0) (a .1 .0) (a .1 .1 .0) r zs }

@@ -1,6 +1,6 @@
 -- Lane records as walks have them, and the structs that the loops carry.
 use mathlib.Core.List.{List, [], _∷_}
-use mir.Syntax.{w8, w32, w64}
+use mir.Syntax.{w8, w16, w32, w64}
 use mir.Val.{Val}
 use Rattle.lane.specs.declared.Lane.{Lane}
 use Rattle.lane.proofs.Lane as L
@@ -18,6 +18,9 @@ use Rattle.bench_lent.proofs.Plain.{Plain, uint, struct}
 
 abbrev pub byte : Plain
 byte = uint w8
+
+abbrev pub half : Plain
+half = uint w16
 
 abbrev pub word : Plain
 word = uint w32

@@ -6,7 +6,7 @@ use Prim.Native.Nat.{ℕ, _+_, _-_}
 use lib.Dec.{eqb, ltb}
 use Rattle.answers.specs.Order.{ifDone}
 use Rattle.lane.specs.declared.Lane.{Lane}
-use Rattle.lane.specs.Record.{idle, running, soundLane}
+use Rattle.lane.specs.Record.{idle, running, soundLane, admits}
 use Rattle.bench.specs.Turning.{laneCount, laneAt, after}
 use Rattle.bench.specs.Orders.{turnCode}
 use Rattle.bench.specs.Calls.{soundBench}
@@ -18,14 +18,18 @@ use Rattle.bench_lent.specs.Lent.{benchOf}
 -- ---- a look at all records: its start, one record more, and its end
 
 abbrev pub Starts : (count last : ℕ) → Seen → Type 0
-Starts count last r = (r .sound ≡ eqb count laneCount && ltb last laneCount) × (r .next ≡ cond (r .sound) 0 laneCount) × (r .phase ≡ idle)
+Starts count last r = (r .sound ≡ eqb count laneCount && ltb last laneCount) × (r .next ≡ cond (r .sound) 0 laneCount) × (r .phase ≡ idle) × (r .admitted ≡ true)
 
-abbrev pub Notes : Seen → Lane → (lane : ℕ) → Seen → Type 0
-Notes s l lane r = (r .next ≡ s .next + 1) × (r .sound ≡ s .sound && soundLane l) × (r .phase ≡ cond (eqb (s .next) lane) (l .phase) (s .phase))
+abbrev pub Notes : Seen → Lane → (lane caller : ℕ) → Seen → Type 0
+Notes s l lane caller r =
+    (r .next ≡ s .next + 1) × (r .sound ≡ s .sound && soundLane l)
+    × (r .phase ≡ cond (eqb (s .next) lane) (l .phase) (s .phase)) × (r .admitted ≡ cond (eqb (s .next) lane) (admits l caller) (s .admitted))
 
--- of records that are not sound the phase tells nothing
-abbrev pub Sees : (records : List Lane) (last lane : ℕ) → Seen → Type 0
-Sees records last lane r = (r .sound ≡ soundBench (benchOf records last)) × (r .sound ≡ true → r .phase ≡ laneAt records lane .phase)
+-- of records that are not sound the phase tells nothing, nor whom a lane admits
+abbrev pub Sees : (records : List Lane) (last lane caller : ℕ) → Seen → Type 0
+Sees records last lane caller r =
+    (r .sound ≡ soundBench (benchOf records last))
+    × (r .sound ≡ true → (r .phase ≡ laneAt records lane .phase) × (r .admitted ≡ admits (laneAt records lane) caller))
 
 -- ---- a search for a running lane: one lane passed, or found
 
@@ -47,6 +51,6 @@ Goes s n r =
 
 -- ---- a record stored again
 
--- everything of the new one but the round words, which stay
+-- everything of the new one but the owner and the round words, which stay
 abbrev pub renewed : Lane → Lane → Lane
-renewed old new = record { phase = new .phase; direction = new .direction; count = new .count; words = old .words; state = new .state }
+renewed old new = record { phase = new .phase; direction = new .direction; owner = old .owner; count = new .count; words = old .words; state = new .state }

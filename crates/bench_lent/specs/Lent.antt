@@ -16,8 +16,8 @@ benchOf records last = record { lanes = records; last = last }
 abbrev pub Leaves : Answer → ℕ → List Lane → Type 0
 Leaves a r e = (r ≡ a .code) × (e ≡ a .bench .lanes)
 
-abbrev pub Opens : (records : List Lane) (last lane direction : ℕ) (key block : List ℕ) → ℕ → List Lane → Type 0
-Opens records last lane direction key block = Leaves (openOf (benchOf records last) lane direction key block)
+abbrev pub Opens : (records : List Lane) (last lane owner direction : ℕ) (key block : List ℕ) → ℕ → List Lane → Type 0
+Opens records last lane owner direction key block = Leaves (openOf (benchOf records last) lane owner direction key block)
 
 -- what a call for turns tells of an answer: the last served number comes back too
 abbrev pub tells : Answer → Turns
@@ -27,8 +27,8 @@ abbrev pub Serves : (records : List Lane) (last asked : ℕ) → Turns → List 
 Serves records last asked r e = (r ≡ tells (turnOf (benchOf records last) asked)) × (e ≡ turnOf (benchOf records last) asked .bench .lanes)
 
 -- and what stands afterwards in the buffer that was lent for a take
-abbrev pub Takes : (records : List Lane) (last lane : ℕ) (out : List ℕ) → ℕ → List Lane → List ℕ → Type 0
-Takes records last lane out r e u = Leaves (takeOf (benchOf records last) lane out) r e × (u ≡ takenBytes (benchOf records last) lane out)
+abbrev pub Takes : (records : List Lane) (last lane caller : ℕ) (out : List ℕ) → ℕ → List Lane → List ℕ → Type 0
+Takes records last lane caller out r e u = Leaves (takeOf (benchOf records last) lane caller out) r e × (u ≡ takenBytes (benchOf records last) lane caller out)
 
-abbrev pub Closes : (records : List Lane) (last lane : ℕ) → ℕ → List Lane → Type 0
-Closes records last lane = Leaves (closeOf (benchOf records last) lane)
+abbrev pub Closes : (records : List Lane) (last lane caller : ℕ) → ℕ → List Lane → Type 0
+Closes records last lane caller = Leaves (closeOf (benchOf records last) lane caller)

@@ -10,6 +10,7 @@ use bench::orders::turn_code;
 use lane::IDLE;
 use lane::Lane;
 use lane::RUNNING;
+use lane::admits;
 use lane::idle_lane;
 use lane::opened;
 use lane::served;
@@ -46,7 +47,7 @@ fn put(lanes: &mut [Lane], n: usize, l: Lane)
     lanes[n] = l;
 }
 
-// All of a record but its round words, which stay.
+// All of a record but its owner and its round words, which stay.
 fn renew(lanes: &mut [Lane], n: usize, l: Lane)
     requires { ⌜ n < length (now lanes) ⌝ }
     ensures { λ r. ⌜ now (lanes .exit) ≡ set (now (lanes .entry)) n (renewed (laneAt (now (lanes .entry)) n) l) ⌝ }
@@ -59,11 +60,13 @@ fn renew(lanes: &mut [Lane], n: usize, l: Lane)
 
 // ---- looking
 
-// How far a look has come: the next record, or LANES when it is over; whether all was sound so far; and the phase of the lane that is named.
+// How far a look has come: the next record, or LANES when it is over; whether all was sound so far; and of the lane that is named its phase, and
+// whether it admits the caller.
 struct Seen {
     next: usize,
     sound: bool,
     phase: u8,
+    admitted: bool,
 }
 
 fn unseen(count: usize, last: u32) -> Seen
@@ -75,6 +78,7 @@ fn unseen(count: usize, last: u32) -> Seen
                 next: 0,
                 sound: true,
                 phase: IDLE,
+                admitted: true,
             };
         }
     }
@@ -82,38 +86,42 @@ fn unseen(count: usize, last: u32) -> Seen
         next: LANES,
         sound: false,
         phase: IDLE,
+        admitted: true,
     }
 }
 
 // The next record looked at.
-fn noted(s: Seen, l: Lane, lane: u32) -> Seen
+fn noted(s: Seen, l: Lane, lane: u32, caller: u16) -> Seen
     requires { ⌜ s .next < laneCount ⌝ }
-    ensures { λ r. ⌜ Notes s l lane r ⌝ }
+    ensures { λ r. ⌜ Notes s l lane caller r ⌝ }
 {
     let ok = sound_lane(l);
     let sound = s.sound && ok;
     let next = s.next + 1;
     if s.next == (lane as usize) {
+        let admitted = admits(l, caller);
         return Seen {
             next,
             sound,
             phase: l.phase,
+            admitted,
         };
     }
     Seen {
         next,
         sound,
         phase: s.phase,
+        admitted: s.admitted,
     }
 }
 
-fn look(lanes: &mut [Lane], last: u32, lane: u32) -> Seen
-    ensures { λ r. ⌜ Sees (now (lanes .entry)) last lane r × (now (lanes .exit) ≡ now (lanes .entry)) ⌝ }
+fn look(lanes: &mut [Lane], last: u32, lane: u32, caller: u16) -> Seen
+    ensures { λ r. ⌜ Sees (now (lanes .entry)) last lane caller r × (now (lanes .exit) ≡ now (lanes .entry)) ⌝ }
 {
     let mut s = unseen(lanes.len(), last);
     while s.next < LANES {
         let l = lanes[s.next];
-        s = noted(s, l, lane);
+        s = noted(s, l, lane, caller);
     }
     s
 }
@@ -221,25 +229,38 @@ pub fn open_lane(
     lanes: &mut [Lane],
     last: u32,
     lane: u32,
+    owner: u16,
     direction: u32,
     key: &[u8],
     block: &[u8],
 ) -> u32
-    ensures { λ r. ⌜ Opens (now (lanes .entry)) last lane direction (now (key .entry)) (now (block .entry)) r (now (lanes .exit)) ⌝ }
+    ensures { λ r. ⌜ Opens (now (lanes .entry)) last lane owner direction (now (key .entry)) (now (block .entry)) r (now (lanes .exit)) ⌝ }
 {
-    let s = look(lanes, last, lane);
-    let code = open_code(s.sound, lane, s.phase, direction, key.len(), block.len());
+    let s = look(lanes, last, lane, owner);
+    let code = open_code(
+        s.sound,
+        lane,
+        s.phase,
+        owner,
+        direction,
+        key.len(),
+        block.len(),
+    );
     if code != DONE {
         return code;
     }
-    put(lanes, lane as usize, opened(direction as u8, key, block));
+    put(
+        lanes,
+        lane as usize,
+        opened(owner, direction as u8, key, block),
+    );
     code
 }
 
 pub fn turn(lanes: &mut [Lane], last: u32, asked: u32) -> Turns
     ensures { λ r. ⌜ Serves (now (lanes .entry)) last asked r (now (lanes .exit)) ⌝ }
 {
-    let s = look(lanes, last, last);
+    let s = look(lanes, last, last, 0);
     let mut r = begun(s.sound, last, asked);
     while 0 < r.left {
         let n = turn_once(lanes, r.told.last);
@@ -248,11 +269,11 @@ pub fn turn(lanes: &mut [Lane], last: u32, asked: u32) -> Turns
     r.told
 }
 
-pub fn take(lanes: &mut [Lane], last: u32, lane: u32, out: &mut [u8]) -> u32
-    ensures { λ r. ⌜ Takes (now (lanes .entry)) last lane (now (out .entry)) r (now (lanes .exit)) (now (out .exit)) ⌝ }
+pub fn take(lanes: &mut [Lane], last: u32, lane: u32, owner: u16, out: &mut [u8]) -> u32
+    ensures { λ r. ⌜ Takes (now (lanes .entry)) last lane owner (now (out .entry)) r (now (lanes .exit)) (now (out .exit)) ⌝ }
 {
-    let s = look(lanes, last, lane);
-    let code = take_code(s.sound, lane, s.phase, out.len());
+    let s = look(lanes, last, lane, owner);
+    let code = take_code(s.sound, lane, s.admitted, s.phase, out.len());
     if code != DONE {
         return code;
     }
@@ -263,11 +284,11 @@ pub fn take(lanes: &mut [Lane], last: u32, lane: u32, out: &mut [u8]) -> u32
     code
 }
 
-pub fn close(lanes: &mut [Lane], last: u32, lane: u32) -> u32
-    ensures { λ r. ⌜ Closes (now (lanes .entry)) last lane r (now (lanes .exit)) ⌝ }
+pub fn close(lanes: &mut [Lane], last: u32, lane: u32, owner: u16) -> u32
+    ensures { λ r. ⌜ Closes (now (lanes .entry)) last lane owner r (now (lanes .exit)) ⌝ }
 {
-    let s = look(lanes, last, lane);
-    let code = close_code(s.sound, lane);
+    let s = look(lanes, last, lane, owner);
+    let code = close_code(s.sound, lane, s.admitted);
     if code != DONE {
         return code;
     }

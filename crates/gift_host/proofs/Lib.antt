@@ -1,3 +1,2 @@
 -- What the functions share that hand lent records on.
 pub mod Passing
-pub mod TwoNumbers

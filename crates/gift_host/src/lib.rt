@@ -11,7 +11,7 @@ ghost use Rattle.bench_lent.specs.Lent.{Opens, Serves, Takes, Closes};
 ghost use Rattle.gift_host.specs.Edition.{edition};
 
 // The edition of records, arguments and counts that this library has. GIFT_HOST_EDITION in the header is the one that a host was compiled for.
-const EDITION: u32 = 3;
+const EDITION: u32 = 4;
 
 #[no_mangle]
 pub extern "C" fn gift_host_edition() -> u32
@@ -88,19 +88,20 @@ pub extern "C" fn gift_decrypt_blocks(key: &[u8], input: &[u8], output: &mut [u8
     gift128::decrypt_blocks(key, input, output)
 }
 
-// The bench over the host's own records. Opening: 10, 5, 6, 9, 1, 2.
+// The bench over the host's own records. Opening: 10, 5, 6, 11, 9, 1, 2.
 #[no_mangle]
 pub extern "C" fn gift_open_lane(
     lanes: &mut [Lane],
     last: u32,
     lane: u32,
+    owner: u16,
     direction: u32,
     key: &[u8],
     block: &[u8],
 ) -> u32
-    ensures { λ r. ⌜ Opens (now (lanes .entry)) last lane direction (now (key .entry)) (now (block .entry)) r (now (lanes .exit)) ⌝ }
+    ensures { λ r. ⌜ Opens (now (lanes .entry)) last lane owner direction (now (key .entry)) (now (block .entry)) r (now (lanes .exit)) ⌝ }
 {
-    bench_lent::open_lane(lanes, last, lane, direction, key, block)
+    bench_lent::open_lane(lanes, last, lane, owner, direction, key, block)
 }
 
 // Turns: 10, 8. The last served number goes in, and comes back.
@@ -111,18 +112,24 @@ pub extern "C" fn gift_turn(lanes: &mut [Lane], last: u32, asked: u32) -> Turns
     bench_lent::turn(lanes, last, asked)
 }
 
-// Taking: 10, 5, 7, 2.
+// Taking: 10, 5, 11, 7, 2.
 #[no_mangle]
-pub extern "C" fn gift_take(lanes: &mut [Lane], last: u32, lane: u32, out: &mut [u8]) -> u32
-    ensures { λ r. ⌜ Takes (now (lanes .entry)) last lane (now (out .entry)) r (now (lanes .exit)) (now (out .exit)) ⌝ }
+pub extern "C" fn gift_take(
+    lanes: &mut [Lane],
+    last: u32,
+    lane: u32,
+    owner: u16,
+    out: &mut [u8],
+) -> u32
+    ensures { λ r. ⌜ Takes (now (lanes .entry)) last lane owner (now (out .entry)) r (now (lanes .exit)) (now (out .exit)) ⌝ }
 {
-    bench_lent::take(lanes, last, lane, out)
+    bench_lent::take(lanes, last, lane, owner, out)
 }
 
-// Closing: 10, 5.
+// Closing: 10, 5, 11.
 #[no_mangle]
-pub extern "C" fn gift_close(lanes: &mut [Lane], last: u32, lane: u32) -> u32
-    ensures { λ r. ⌜ Closes (now (lanes .entry)) last lane r (now (lanes .exit)) ⌝ }
+pub extern "C" fn gift_close(lanes: &mut [Lane], last: u32, lane: u32, owner: u16) -> u32
+    ensures { λ r. ⌜ Closes (now (lanes .entry)) last lane owner r (now (lanes .exit)) ⌝ }
 {
-    bench_lent::close(lanes, last, lane)
+    bench_lent::close(lanes, last, lane, owner)
 }

@@ -1,6 +1,6 @@
 -- What the crates above use of a record: its counts by its phase, what a turn of its own does to it, and what it holds just opened and yields in the end.
 use mathlib.Core.Path.{_≡_, refl, sym, ap, _∙_}
-use mathlib.Core.Bool.{Bool, true, false, cond, _&&_, _||_, and-false, or-false, false≢true}
+use mathlib.Core.Bool.{Bool, true, false, cond, not, _&&_, _||_, and-false, or-false, false≢true}
 use mathlib.Core.List.{List}
 use mathlib.Core.Logic.{_≢_}
 use Prim.Native.Nat.{ℕ, zero, suc, _+_, _-_, _≤_, _<_}
@@ -8,7 +8,7 @@ use native.Mathlib.Decide.{ℕ-discrete, decLe}
 use native.Mathlib.Omega.{arith}
 use lib.Dec.{eqb, leb, ltb}
 use lib.ListN.{length, replicate}
-use borrow.Author.Tests.{lt-ltb, le-ltb, le-leb, lt-leb, eq-eqb, ne-eqb, eqb-true, eqb-false, leb-true}
+use borrow.Author.Tests.{lt-ltb, le-ltb, le-leb, lt-leb, eq-eqb, ne-eqb, eqb-true, eqb-false, leb-true, not-true}
 use Rattle.answers.specs.Order.{ifDone}
 use Rattle.bits.proofs.Computed.{cond-true}
 use Rattle.bits.proofs.Truth.{both, together, cond-either}
@@ -20,22 +20,39 @@ use Rattle.packing.proofs.Inverse.{packed-block}
 use Rattle.key_schedule.specs.Expand.{expanded}
 use Rattle.gift128.specs.Calls.{newCode}
 use Rattle.lane.specs.declared.Lane.{Lane}
-use Rattle.lane.specs.Record.{running, finished, idle, idleLane, everything, allZero, soundCount, soundLane, opened, advanced, served, lacks, yielded}
+use Rattle.lane.specs.Record.{running, finished, idle, idleLane, everything, allZero, soundCount, soundLane, admits, opened, advanced, served, lacks, yielded}
 use Rattle.lane.proofs.Zero.{idle-is-zero}
 
 -- what makes a busy record sound
-pub busy-is : (l : Lane) → l .phase ≢ idle → soundLane l ≡ (leb (l .direction) 1 && soundCount (l .phase) (l .count))
+pub busy-is : (l : Lane) → l .phase ≢ idle → soundLane l ≡ (not (eqb (l .owner) 0) && leb (l .direction) 1 && soundCount (l .phase) (l .count))
 unfolding soundLane everything allZero
 busy-is l busy = rw (ne-eqb (l .phase) 0 busy)
 
-busy-sound : (l : Lane) → soundLane l ≡ true → l .phase ≢ idle → (leb (l .direction) 1 ≡ true) × (soundCount (l .phase) (l .count) ≡ true)
-busy-sound l s busy = both (leb (l .direction) 1) (soundCount (l .phase) (l .count)) (sym (busy-is l busy) ∙ s)
+-- a busy record that is sound, as facts
+pub record Tidy (l : Lane) : Type 0 where
+  pub owned : l .owner ≢ 0
+  pub directed : leb (l .direction) 1 ≡ true
+  pub counted : soundCount (l .phase) (l .count) ≡ true
+
+pub tidy : (l : Lane) → soundLane l ≡ true → l .phase ≢ idle → Tidy l
+tidy l s busy =
+    let two : Bool = not (eqb (l .owner) 0) && leb (l .direction) 1 in
+    let h : (two ≡ true) × (soundCount (l .phase) (l .count) ≡ true) = both two (soundCount (l .phase) (l .count)) (sym (busy-is l busy) ∙ s) in
+    let g : (not (eqb (l .owner) 0) ≡ true) × (leb (l .direction) 1 ≡ true) = both (not (eqb (l .owner) 0)) (leb (l .direction) 1) (h .0) in
+    record { owned = eqb-false (l .owner) 0 (not-true _ (g .0)); directed = g .1; counted = h .1 }
+
+pub tidy-sound : (l : Lane) → l .phase ≢ idle → Tidy l → soundLane l ≡ true
+tidy-sound l busy t =
+    busy-is l busy
+    ∙ together _ (soundCount (l .phase) (l .count))
+    (together _ (leb (l .direction) 1) (ap not (ne-eqb (l .owner) 0 (t .owned))) (t .directed)) (t .counted)
 
 -- and an idle one
 pub idle-is : (l : Lane) → l .phase ≡ idle → soundLane l ≡ allZero (everything l)
 unfolding soundLane soundCount
 idle-is l e =
-    ap (λ (t : Bool). allZero (everything l) || t) (ap (λ (p : ℕ). leb (l .direction) 1 && soundCount p (l .count)) e ∙ and-false (leb (l .direction) 1))
+    let two : Bool = not (eqb (l .owner) 0) && leb (l .direction) 1 in
+    ap (λ (t : Bool). allZero (everything l) || t) (ap (λ (p : ℕ). two && soundCount p (l .count)) e ∙ and-false two)
     ∙ or-false (allZero (everything l))
 
 -- the idle lane is sound
@@ -43,17 +60,26 @@ pub idle-sound : soundLane idleLane ≡ true
 unfolding idleLane
 idle-sound = idle-is idleLane refl ∙ idle-is-zero
 
+-- whom a lane admits: anyone while it is idle, and then its owner
+pub idle-admits : (l : Lane) (caller : ℕ) → l .phase ≡ idle → admits l caller ≡ true
+unfolding admits
+idle-admits l caller e = rw e
+
+pub busy-admits : (l : Lane) (caller : ℕ) → l .phase ≢ idle → admits l caller ≡ eqb (l .owner) caller
+unfolding admits
+busy-admits l caller busy = rw (ne-eqb (l .phase) 0 busy)
+
 -- a lane with a running record that is sound has turns left
 pub running-count : (l : Lane) → soundLane l ≡ true → l .phase ≡ running → l .count < 8
 unfolding soundCount
 running-count l s e =
-    let h : leb (l .count) 7 ≡ true = rw e at (busy-sound l s (λ z. eqb-false 1 0 refl (sym e ∙ z)) .1) in
+    let h : leb (l .count) 7 ≡ true = rw e at (tidy l s (λ z. eqb-false 1 0 refl (sym e ∙ z)) .counted) in
     omega (arith, leb-true (l .count) 7 h)
 
 pub finished-count : (l : Lane) → soundLane l ≡ true → l .phase ≡ finished → l .count ≡ 8
 unfolding soundCount
 finished-count l s e =
-    let h : eqb (l .count) 8 ≡ true = rw e at (busy-sound l s (λ z. eqb-false 2 0 refl (sym e ∙ z)) .1) in
+    let h : eqb (l .count) 8 ≡ true = rw e at (tidy l s (λ z. eqb-false 2 0 refl (sym e ∙ z)) .counted) in
     eqb-true (l .count) 8 h
 
 -- an idle record has count 0
@@ -62,14 +88,15 @@ unfolding everything allZero
 idle-count l s e =
     let p1 = both (eqb (l .phase) 0) _ (sym (idle-is l e) ∙ s) in
     let p2 = both (eqb (l .direction) 0) _ (p1 .1) in
-    eqb-true (l .count) 0 (both (eqb (l .count) 0) _ (p2 .1) .0)
+    let p3 = both (eqb (l .owner) 0) _ (p2 .1) in
+    eqb-true (l .count) 0 (both (eqb (l .count) 0) _ (p3 .1) .0)
 
 pub sound-count : (l : Lane) → soundLane l ≡ true → l .count ≤ 8
 unfolding soundCount
 sound-count l s =
     elim (ℕ-discrete (l .phase) idle) [
       | yes e ↦ omega (arith, idle-count l s e)
-      | no ne ↦ go (l .phase) (busy-sound l s ne .1)
+      | no ne ↦ go (l .phase) (tidy l s ne .counted)
     ]
   where
     go : (p : ℕ) → soundCount p (l .count) ≡ true → l .count ≤ 8
@@ -100,6 +127,7 @@ next l =
     record {
       phase = cond (eqb (l .count + 1) 8) finished running;
       direction = l .direction;
+      owner = l .owner;
       count = l .count + 1;
       words = l .words;
       state = advanced l;
@@ -107,9 +135,14 @@ next l =
 
 -- the same by its parts: the last turn, and one before it
 pub served-by : (l : Lane) (phase : ℕ) (state : State) → l .count < 8 → phase ≡ cond (eqb (l .count + 1) 8) finished running → state ≡ advanced l
-    → record { phase = phase; direction = l .direction; count = l .count + 1; words = l .words; state = state } ≡ served l
+    → record { phase = phase; direction = l .direction; owner = l .owner; count = l .count + 1; words = l .words; state = state } ≡ served l
 unfolding served
 served-by l phase state h p s = rw (p, s) (sym (cond-true (ltb (l .count) 8) (next l) l (lt-ltb (l .count) 8 h)))
+
+-- a turn leaves a lane its owner
+pub served-owner : (l : Lane) → served l .owner ≡ l .owner
+unfolding served
+served-owner l = cond-either (λ (k : Lane). k .owner ≡ l .owner) (ltb (l .count) 8) (next l) l (λ e. refl) (λ e. refl)
 
 module _ (l : Lane) (sound : soundLane l ≡ true) (runs : l .phase ≡ running) where
   pub served-next : served l ≡ next l
@@ -127,12 +160,13 @@ module _ (l : Lane) (sound : soundLane l ≡ true) (runs : l .phase ≡ running)
   pub served-sound : soundLane (served l) ≡ true
   unfolding soundCount
   served-sound =
-      busy-is (served l) served-busy
-      ∙ (rw served-next
-      (together (leb (l .direction) 1) _ (busy-sound l sound (λ z. eqb-false 1 0 refl (sym runs ∙ z)) .0)
-      (cond-either (λ (p : ℕ). soundCount p (l .count + 1) ≡ true) (eqb (l .count + 1) 8) finished running
+      let t : Tidy l = tidy l sound (λ z. eqb-false 1 0 refl (sym runs ∙ z)) in
+      let counted : soundCount (next l .phase) (l .count + 1) ≡ true =
+      cond-either (λ (p : ℕ). soundCount p (l .count + 1) ≡ true) (eqb (l .count + 1) 8) finished running
       (λ e. e)
-      (λ e. le-leb (l .count + 1) 7 (omega (arith, running-count l sound runs, eqb-false (l .count + 1) 8 e))))))
+      (λ e. le-leb (l .count + 1) 7 (omega (arith, running-count l sound runs, eqb-false (l .count + 1) 8 e))) in
+      let more : Tidy (next l) = record { owned = t .owned; directed = t .directed; counted = counted } in
+      tidy-sound (served l) served-busy (rw served-next more)
 
   pub served-lacks : suc (lacks (served l)) ≡ lacks l
   unfolding lacks
@@ -150,7 +184,7 @@ unfolding soundCount
 eight-finished l s e =
     elim (ℕ-discrete (l .phase) idle) [
       | yes z ↦ absurd (eqb-false 8 0 refl (sym e ∙ idle-count l s z))
-      | no ne ↦ go (l .phase) (busy-sound l s ne .1)
+      | no ne ↦ go (l .phase) (tidy l s ne .counted)
     ]
   where
     go : (p : ℕ) → soundCount p (l .count) ≡ true → p ≡ finished
@@ -160,13 +194,14 @@ eight-finished l s e =
     go (suc (suc (suc p))) h = absurd (false≢true h)
 
 -- by a key and a block of 16 bytes, a lane is opened on the key's words and the block's
-pub opened-on : (direction : ℕ) (key block : List ℕ) → length key ≡ 16 → length block ≡ 16
-    → opened direction key block ≡ record { phase = running; direction = direction; count = 0; words = expanded key; state = stateOf (fromBytes block) }
+pub opened-on : (owner direction : ℕ) (key block : List ℕ) → length key ≡ 16 → length block ≡ 16
+    → opened owner direction key block ≡ record { phase = running; direction = direction; owner = owner; count = 0; words = expanded key; state = stateOf (fromBytes block) }
 unfolding opened newCode
-opened-on direction key block k b =
+opened-on owner direction key block k b =
     λ i. record {
       phase = running;
       direction = direction;
+      owner = owner;
       count = 0;
       words = ap (λ (n : ℕ). ifDone (newCode n) (expanded key) (replicate 80 0)) k i;
       state = packed-block block b i;

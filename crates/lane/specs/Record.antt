@@ -1,5 +1,5 @@
--- A lane's record: what makes it sound, and what an opening, a turn of its own, yielding and going idle make of it.
-use mathlib.Core.Bool.{Bool, true, false, cond, _&&_, _||_}
+-- A lane's record: what makes it sound, whom it admits, and what an opening, a turn of its own, yielding and going idle make of it.
+use mathlib.Core.Bool.{Bool, true, false, cond, not, _&&_, _||_}
 use mathlib.Core.List.{List, [], _∷_}
 use Prim.Native.Nat.{ℕ, zero, suc, _+_, _-_, _*_}
 use lib.Dec.{eqb, leb, ltb}
@@ -21,11 +21,11 @@ finished = 2
 
 -- An idle lane is all zero: a fresh one, and one that was taken from or closed.
 unfoldable pub idleLane : Lane
-idleLane = record { phase = idle; direction = 0; count = 0; words = replicate 80 0; state = noWords }
+idleLane = record { phase = idle; direction = 0; owner = 0; count = 0; words = replicate 80 0; state = noWords }
 
 -- everything in a record, and whether it is all zero
 unfoldable pub everything : Lane → List ℕ
-everything l = l .phase ∷ l .direction ∷ l .count ∷ l .state .s0 ∷ l .state .s1 ∷ l .state .s2 ∷ l .state .s3 ∷ l .words
+everything l = l .phase ∷ l .direction ∷ l .owner ∷ l .count ∷ l .state .s0 ∷ l .state .s1 ∷ l .state .s2 ∷ l .state .s3 ∷ l .words
 
 unfoldable pub allZero : List ℕ → Bool
 allZero [] = true
@@ -38,14 +38,18 @@ soundCount (suc zero) c = leb c 7
 soundCount (suc (suc zero)) c = eqb c 8
 soundCount (suc (suc (suc p))) c = false
 
--- all zero, or busy with direction 0 or 1
+-- all zero, or busy with an owner and direction 0 or 1: the owner is 0 exactly where the lane is idle
 unfoldable pub soundLane : Lane → Bool
-soundLane l = allZero (everything l) || leb (l .direction) 1 && soundCount (l .phase) (l .count)
+soundLane l = allZero (everything l) || not (eqb (l .owner) 0) && leb (l .direction) 1 && soundCount (l .phase) (l .count)
 
--- Opening: the key expanded, the block packed.
-unfoldable pub opened : ℕ → List ℕ → List ℕ → Lane
-opened direction key block =
-    record { phase = running; direction = direction; count = 0; words = newWords key; state = packed block }
+-- An idle lane is open to anyone, a busy one to its owner.
+unfoldable pub admits : Lane → (caller : ℕ) → Bool
+admits l caller = eqb (l .phase) idle || eqb (l .owner) caller
+
+-- Opening: the owner's, the key expanded, the block packed.
+unfoldable pub opened : (owner direction : ℕ) (key block : List ℕ) → Lane
+opened owner direction key block =
+    record { phase = running; direction = direction; owner = owner; count = 0; words = newWords key; state = packed block }
 
 -- One quintuple round more: forward at offset 5·count, or back at offset 35 − 5·count, over the words that start at twice the offset.
 unfoldable pub advanced : Lane → State
@@ -61,6 +65,7 @@ served l =
     (record {
       phase = cond (eqb (l .count + 1) 8) finished running;
       direction = l .direction;
+      owner = l .owner;
       count = l .count + 1;
       words = l .words;
       state = advanced l;

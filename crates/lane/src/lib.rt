@@ -8,7 +8,7 @@ use quintuple::quintuple_round;
 ghost use mathlib.Core.Path.{_≡_};
 ghost use Prim.Native.Nat.{_<_};
 ghost use lib.Dec.{eqb};
-ghost use Rattle.lane.specs.Record.{allZero, everything, soundLane, opened, advanced, served, yielded, idleLane};
+ghost use Rattle.lane.specs.Record.{allZero, everything, soundLane, admits, opened, advanced, served, yielded, idleLane};
 
 // The phases of a lane.
 pub const IDLE: u8 = 0;
@@ -18,19 +18,20 @@ pub const RUNNING: u8 = 1;
 pub const FINISHED: u8 = 2;
 
 // How many turns of its own a lane takes from its opening until it is finished.
-pub const TURNS: u16 = 8;
+pub const TURNS: u32 = 8;
 
 // The directions.
 pub const ENCRYPT: u8 = 0;
 
 pub const DECRYPT: u8 = 1;
 
-// The count is of the lane's own turns. No byte of the record is padding.
+// The owner is the guest that opened the lane, and 0 while it is idle; the count is of the lane's own turns. No byte of the record is padding.
 #[repr(C)]
 pub struct Lane {
     pub phase: u8,
     pub direction: u8,
-    pub count: u16,
+    pub owner: u16,
+    pub count: u32,
     pub words: [u32; 80],
     pub state: State,
 }
@@ -55,7 +56,7 @@ fn all_zero(l: Lane) -> bool
 {
     let words = l.words;
     let state = l.state;
-    let head = (l.phase as u32) | (l.direction as u32) | (l.count as u32);
+    let head = (l.phase as u32) | (l.direction as u32) | (l.owner as u32) | l.count;
     let block = state.s0 | state.s1 | state.s2 | state.s3;
     (head | block | any_bit(words)) == 0
 }
@@ -64,9 +65,13 @@ pub fn sound_lane(l: Lane) -> bool
     ensures { λ r. ⌜ r ≡ soundLane l ⌝ }
 {
     let phase = l.phase;
+    let owner = l.owner;
     let count = l.count;
     if phase == IDLE {
         return all_zero(l);
+    }
+    if owner == 0 {
+        return false;
     }
     if DECRYPT < l.direction {
         return false;
@@ -80,12 +85,26 @@ pub fn sound_lane(l: Lane) -> bool
     false
 }
 
+// ---- whose it is
+
+// An idle lane is open to anyone, a busy one to its owner.
+pub fn admits(l: Lane, caller: u16) -> bool
+    ensures { λ r. ⌜ r ≡ admits l caller ⌝ }
+{
+    let phase = l.phase;
+    let owner = l.owner;
+    if phase == IDLE {
+        return true;
+    }
+    owner == caller
+}
+
 // ---- opening
 
 // The key expanded and the block packed: running, with no turn made. (Of a key or block of another length than 16, which every call
 // refuses before, the words are zero.)
-pub fn opened(direction: u8, key: &[u8], block: &[u8]) -> Lane
-    ensures { λ r. ⌜ r ≡ opened direction (now (key .entry)) (now (block .entry)) ⌝ }
+pub fn opened(owner: u16, direction: u8, key: &[u8], block: &[u8]) -> Lane
+    ensures { λ r. ⌜ r ≡ opened owner direction (now (key .entry)) (now (block .entry)) ⌝ }
 {
     let made = Gift128::new(key);
     let cipher = made.cipher;
@@ -94,6 +113,7 @@ pub fn opened(direction: u8, key: &[u8], block: &[u8]) -> Lane
     Lane {
         phase: RUNNING,
         direction,
+        owner,
         count: 0,
         words,
         state,
@@ -133,6 +153,7 @@ pub fn served(l: Lane) -> Lane
         return Lane {
             phase: FINISHED,
             direction: l.direction,
+            owner: l.owner,
             count: count + 1,
             words,
             state,
@@ -141,6 +162,7 @@ pub fn served(l: Lane) -> Lane
     Lane {
         phase: RUNNING,
         direction: l.direction,
+        owner: l.owner,
         count: count + 1,
         words,
         state,
@@ -170,6 +192,7 @@ pub fn idle_lane() -> Lane
     Lane {
         phase: IDLE,
         direction: 0,
+        owner: 0,
         count: 0,
         words: [0u32; 80],
         state,

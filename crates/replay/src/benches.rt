@@ -60,6 +60,11 @@ fn words_told(line: &[u8]) -> [u32; 80] {
     words_of(k)
 }
 
+// An owner's number has sixteen bits.
+fn owner(line: &[u8]) -> u16 {
+    (number(line, b"owner") % 65536) as u16
+}
+
 // The record that a line tells; a field that it does not have is zero.
 fn record(line: &[u8]) -> Lane {
     let words = words_told(line);
@@ -67,7 +72,8 @@ fn record(line: &[u8]) -> Lane {
     Lane {
         phase: (number(line, b"phase") % 256) as u8,
         direction: (number(line, b"direction") % 256) as u8,
-        count: (number(line, b"count") % 65536) as u16,
+        owner: owner(line),
+        count: number(line, b"count"),
         words,
         state,
     }
@@ -95,7 +101,10 @@ fn same_state(s: State, t: State) -> bool {
 fn same_lane(a: Lane, b: Lane) -> bool {
     let v = a.words;
     let w = b.words;
-    let head = (a.phase == b.phase) & (a.direction == b.direction) & (a.count == b.count);
+    let head = (a.phase == b.phase)
+        & (a.direction == b.direction)
+        & (a.owner == b.owner)
+        & (a.count == b.count);
     head & same_eighty(v, w) & same_state(a.state, b.state)
 }
 
@@ -117,7 +126,14 @@ fn opened(b: Bench, lane: u32, line: &[u8]) -> Answer {
     let key = k.bytes;
     let block = t.bytes;
     let direction = number(line, b"direction");
-    bench::open_lane(b, lane, direction, front(&key, k.n), front(&block, t.n))
+    bench::open_lane(
+        b,
+        lane,
+        owner(line),
+        direction,
+        front(&key, k.n),
+        front(&block, t.n),
+    )
 }
 
 fn fresh() -> Answer {
@@ -133,7 +149,7 @@ fn called(call: u32, b: Bench, lane: u32, line: &[u8]) -> Answer {
     match call {
         0x31 => opened(b, lane, line),
         0x32 => bench::turn(b, number(line, b"asked")),
-        0x33 => bench::close(b, lane),
+        0x33 => bench::close(b, lane, owner(line)),
         _ => fresh(),
     }
 }
@@ -153,7 +169,7 @@ fn taken(b: Bench, lane: u32, wanted: Bench, line: &[u8]) -> bool {
     let z = lent(line);
     let mut buffer = z.bytes;
     let n = io::count((z.n % BYTES) as isize, &buffer);
-    let a = bench::take(b, lane, &mut buffer[..n]);
+    let a = bench::take(b, lane, owner(line), &mut buffer[..n]);
     left(line, front(&buffer, n)) & answers(a, wanted, line)
 }
 

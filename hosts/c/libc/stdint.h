@@ -1,4 +1,4 @@
-/* What the two hosts need of <stdint.h>, for x86-64: the kit's compiler comes without headers. */
+/* What the hosts need of <stdint.h>, for x86-64: the kit's compiler comes without headers. */
 #ifndef HOSTS_STDINT_H
 #define HOSTS_STDINT_H
 

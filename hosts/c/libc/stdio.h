@@ -1,4 +1,4 @@
-/* What the two hosts need of <stdio.h>: the kit has the C library, and its compiler no headers. */
+/* What the hosts need of <stdio.h>: the kit has the C library, and its compiler no headers. */
 #ifndef HOSTS_STDIO_H
 #define HOSTS_STDIO_H
 

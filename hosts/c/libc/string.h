@@ -1,4 +1,4 @@
-/* What the two hosts need of <string.h>: the kit has the C library, and its compiler no headers. */
+/* What the hosts need of <string.h>: the kit has the C library, and its compiler no headers. */
 #ifndef HOSTS_STRING_H
 #define HOSTS_STRING_H
 

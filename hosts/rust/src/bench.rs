@@ -2,6 +2,7 @@
 
 use core::fmt;
 use core::mem::offset_of;
+use core::num::NonZeroU16;
 
 use crate::{calls, Refusal};
 
@@ -18,6 +19,25 @@ pub enum Direction {
     Decrypt = 1,
 }
 
+/// A guest's number, from 1 to 65535: the lanes that are opened with it are that guest's.
+#[derive(Clone, Copy, Debug, PartialEq, Eq, PartialOrd, Ord, Hash)]
+pub struct Owner(NonZeroU16);
+
+impl Owner {
+    /// The guest of this number; 0 is nobody's.
+    pub const fn new(number: u16) -> Option<Owner> {
+        match NonZeroU16::new(number) {
+            Some(number) => Some(Owner(number)),
+            None => None,
+        }
+    }
+
+    /// Its number.
+    pub const fn number(self) -> u16 {
+        self.0.get()
+    }
+}
+
 /// A block's four words: bit i of word j is bit 4i+j of the block, whose first byte is the most significant.
 #[derive(Clone, Copy, Default, PartialEq, Eq)]
 #[repr(C)]
@@ -29,7 +49,8 @@ pub struct State {
     pub s3: u32,
 }
 
-/// One lane's record. It is sound if it is all zero, which is idle, or if its direction is 0 or 1 and it is running with count 0 to 7 or finished with count 8.
+/// One lane's record. It is sound if it is all zero, which is idle, or if its owner is not 0, its direction is 0 or 1 and it is running with count 0 to 7 or
+/// finished with count 8.
 #[derive(Clone, Copy, PartialEq, Eq)]
 #[repr(C)]
 pub struct Lane {
@@ -37,8 +58,10 @@ pub struct Lane {
     pub phase: u8,
     /// 0 encrypts, 1 decrypts.
     pub direction: u8,
+    /// The number of the guest that opened it; 0 while it is idle.
+    pub owner: u16,
     /// Its own turns since it was opened.
-    pub count: u16,
+    pub count: u32,
     /// Its round words. They are zero after a take or a close.
     pub words: [u32; 80],
     /// Its block, as far as it has come.
@@ -47,13 +70,14 @@ pub struct Lane {
 
 // As include/gift_host.h has it.
 const _: () = assert!(size_of::<State>() == 16);
-const _: () = assert!(size_of::<Lane>() == 340 && align_of::<Lane>() == 4);
+const _: () = assert!(size_of::<Lane>() == 344 && align_of::<Lane>() == 4);
 const _: () = assert!(
     offset_of!(Lane, phase) == 0
         && offset_of!(Lane, direction) == 1
-        && offset_of!(Lane, count) == 2
+        && offset_of!(Lane, owner) == 2
+        && offset_of!(Lane, count) == 4
 );
-const _: () = assert!(offset_of!(Lane, words) == 4 && offset_of!(Lane, state) == 324);
+const _: () = assert!(offset_of!(Lane, words) == 8 && offset_of!(Lane, state) == 328);
 
 impl Lane {
     /// The phase of a lane that can be opened.
@@ -67,6 +91,7 @@ impl Lane {
     pub const FRESH: Lane = Lane {
         phase: Lane::IDLE,
         direction: 0,
+        owner: 0,
         count: 0,
         words: [0; 80],
         state: State {
@@ -84,6 +109,7 @@ impl fmt::Debug for Lane {
         f.debug_struct("Lane")
             .field("phase", &self.phase)
             .field("direction", &self.direction)
+            .field("owner", &self.owner)
             .field("count", &self.count)
             .finish_non_exhaustive()
     }
@@ -91,8 +117,9 @@ impl fmt::Debug for Lane {
 
 /// [`Bench::LANES`] lanes, and the number of the one last served.
 ///
-/// An opened lane that is not closed is finished no later than the 128th turn made after its opening, whatever the other lanes do. On a refusal the bench is
-/// as it was.
+/// A lane belongs to the guest that opened it: any other's take or close of it is refused with 11 until it is idle again, and a guest learns no byte of
+/// another's key or block. (That a guest passes its own number is the host's affair.) An opened lane that its owner does not close is finished no later than
+/// the 128th turn made after its opening, whatever the other lanes do. On a refusal the bench is as it was.
 #[derive(Clone, Debug, PartialEq, Eq)]
 pub struct Bench {
     lanes: [Lane; LANES],
@@ -137,10 +164,11 @@ impl Bench {
         self.last
     }
 
-    /// Opens an idle lane on a key and a block, which are not needed afterwards. Refusals: 10, 5, 6, 1, 2.
+    /// Opens an idle lane for a guest on a key and a block, which are not needed afterwards. Refusals: 10, 5, 6, 1, 2.
     pub fn open(
         &mut self,
         lane: u32,
+        owner: Owner,
         direction: Direction,
         key: &[u8],
         block: &[u8],
@@ -149,6 +177,7 @@ impl Bench {
             &mut self.lanes,
             self.last,
             lane,
+            owner.number(),
             direction as u32,
             key,
             block,
@@ -163,20 +192,20 @@ impl Bench {
         Ok(turns.made)
     }
 
-    /// Takes the block of a finished lane, whose record is all zero afterwards. Refusals: 10, 5, 7.
-    pub fn take(&mut self, lane: u32) -> Result<[u8; 16], Refusal> {
+    /// Takes the block of its owner's finished lane, whose record is all zero afterwards. Refusals: 10, 5, 11, 7.
+    pub fn take(&mut self, lane: u32, owner: Owner) -> Result<[u8; 16], Refusal> {
         let mut block = [0; 16];
-        self.take_into(lane, &mut block)?;
+        self.take_into(lane, owner, &mut block)?;
         Ok(block)
     }
 
-    /// The same into a buffer of the caller's. Refusals: 10, 5, 7, 2.
-    pub fn take_into(&mut self, lane: u32, out: &mut [u8]) -> Result<(), Refusal> {
-        calls::take(&mut self.lanes, self.last, lane, out)
+    /// The same into a buffer of the caller's. Refusals: 10, 5, 11, 7, 2.
+    pub fn take_into(&mut self, lane: u32, owner: Owner, out: &mut [u8]) -> Result<(), Refusal> {
+        calls::take(&mut self.lanes, self.last, lane, owner.number(), out)
     }
 
-    /// Makes a lane idle, all zero, whatever it was. Refusals: 10, 5.
-    pub fn close(&mut self, lane: u32) -> Result<(), Refusal> {
-        calls::close(&mut self.lanes, self.last, lane)
+    /// Makes its owner's lane idle, all zero, however far it has come; an idle lane may be closed by anyone. Refusals: 10, 5, 11.
+    pub fn close(&mut self, lane: u32, owner: Owner) -> Result<(), Refusal> {
+        calls::close(&mut self.lanes, self.last, lane, owner.number())
     }
 }

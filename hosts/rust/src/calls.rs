@@ -79,6 +79,7 @@ extern "C" {
         lanes_len: usize,
         last: u32,
         lane: u32,
+        owner: u16,
         direction: u32,
         key: *const u8,
         key_len: usize,
@@ -91,14 +92,15 @@ extern "C" {
         lanes_len: usize,
         last: u32,
         lane: u32,
+        owner: u16,
         out: *mut u8,
         out_len: usize,
     ) -> u32;
-    fn gift_close(lanes: *mut Lane, lanes_len: usize, last: u32, lane: u32) -> u32;
+    fn gift_close(lanes: *mut Lane, lanes_len: usize, last: u32, lane: u32, owner: u16) -> u32;
 }
 
 /// The edition of the library that this crate declares, as GIFT_HOST_EDITION of include/gift_host.h.
-pub const EDITION: u32 = 3;
+pub const EDITION: u32 = 4;
 
 /// The edition of the library that is linked.
 pub fn edition() -> u32 {
@@ -207,11 +209,12 @@ pub fn decrypt_blocks(key: &[u8], input: &[u8], output: &mut [u8]) -> Result<(),
     })
 }
 
-/// Opens an idle lane of a lent bench on a key and a block, to encrypt (0) or decrypt (1). Refusals: 10, 5, 6, 9, 1, 2.
+/// Opens an idle lane of a lent bench for a guest on a key and a block, to encrypt (0) or decrypt (1). Refusals: 10, 5, 6, 11, 9, 1, 2.
 pub fn open_lane(
     lanes: &mut [Lane],
     last: u32,
     lane: u32,
+    owner: u16,
     direction: u32,
     key: &[u8],
     block: &[u8],
@@ -223,6 +226,7 @@ pub fn open_lane(
             lanes.len(),
             last,
             lane,
+            owner,
             direction,
             key.as_ptr(),
             key.len(),
@@ -243,8 +247,14 @@ pub fn turn(lanes: &mut [Lane], last: u32, asked: u32) -> Result<Turns, Refusal>
     })
 }
 
-/// Writes the 16 bytes of a finished lane, which is idle afterwards. Refusals: 10, 5, 7, 2.
-pub fn take(lanes: &mut [Lane], last: u32, lane: u32, out: &mut [u8]) -> Result<(), Refusal> {
+/// Writes the 16 bytes of its owner's finished lane, which is idle afterwards. Refusals: 10, 5, 11, 7, 2.
+pub fn take(
+    lanes: &mut [Lane],
+    last: u32,
+    lane: u32,
+    owner: u16,
+    out: &mut [u8],
+) -> Result<(), Refusal> {
     linked();
     answer(unsafe {
         gift_take(
@@ -252,14 +262,15 @@ pub fn take(lanes: &mut [Lane], last: u32, lane: u32, out: &mut [u8]) -> Result<
             lanes.len(),
             last,
             lane,
+            owner,
             out.as_mut_ptr(),
             out.len(),
         )
     })
 }
 
-/// Makes a lane idle as after a take, whatever it was. Refusals: 10, 5.
-pub fn close(lanes: &mut [Lane], last: u32, lane: u32) -> Result<(), Refusal> {
+/// Makes its owner's lane idle as after a take, however far it has come. Refusals: 10, 5, 11.
+pub fn close(lanes: &mut [Lane], last: u32, lane: u32, owner: u16) -> Result<(), Refusal> {
     linked();
-    answer(unsafe { gift_close(lanes.as_mut_ptr(), lanes.len(), last, lane) })
+    answer(unsafe { gift_close(lanes.as_mut_ptr(), lanes.len(), last, lane, owner) })
 }

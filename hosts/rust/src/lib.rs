@@ -10,7 +10,7 @@ mod refusal;
 
 use core::fmt;
 
-pub use bench::{Bench, Direction, Lane, State};
+pub use bench::{Bench, Direction, Lane, Owner, State};
 pub use refusal::Refusal;
 
 /// A cipher instance: the 80 round words of its key.

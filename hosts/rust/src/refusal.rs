@@ -1,4 +1,4 @@
-//! The ten refusals, by name and by number.
+//! The eleven refusals, by name and by number.
 
 use core::fmt;
 
@@ -26,11 +26,13 @@ pub enum Refusal {
     BadDirection = 9,
     /// 10: not sixteen records, last served above 15, or a record that is not sound.
     BadBench = 10,
+    /// 11: opening with owner 0; taking from or closing a busy lane with another number than its owner's.
+    NotTheOwner = 11,
 }
 
 impl Refusal {
-    /// All ten, in the order of their numbers.
-    pub const ALL: [Refusal; 10] = [
+    /// All eleven, in the order of their numbers.
+    pub const ALL: [Refusal; 11] = [
         Refusal::BadKeyLength,
         Refusal::BadBlockLength,
         Refusal::BadOutputLength,
@@ -41,9 +43,10 @@ impl Refusal {
         Refusal::TooManyTurns,
         Refusal::BadDirection,
         Refusal::BadBench,
+        Refusal::NotTheOwner,
     ];
 
-    /// Its number, 1 to 10.
+    /// Its number, 1 to 11.
     pub const fn number(self) -> u32 {
         self as u32
     }
@@ -80,6 +83,7 @@ impl fmt::Display for Refusal {
             Refusal::TooManyTurns => "more than 1,024 turns are asked",
             Refusal::BadDirection => "the direction is neither 0 nor 1",
             Refusal::BadBench => "the bench is not sound",
+            Refusal::NotTheOwner => "the lane is another's",
         })
     }
 }

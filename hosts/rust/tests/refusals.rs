@@ -1,7 +1,7 @@
 //! Each refusal, in each call's order, and that nothing lent has changed after one.
 
 use gift_host::Refusal::*;
-use gift_host::{calls, Bench, Direction, Gift128, Lane, Refusal};
+use gift_host::{calls, Bench, Direction, Gift128, Lane, Owner, Refusal};
 
 const LENGTHS: [usize; 8] = [0, 1, 15, 16, 17, 32, 79, 80];
 const WORD_COUNTS: [usize; 7] = [0, 1, 16, 79, 80, 81, 160];
@@ -14,12 +14,12 @@ fn numbers_and_names() {
             (n, n, Ok(refusal))
         );
     }
-    for n in [0, 11, 255, 256, 257, u32::MAX] {
+    for n in [0, 12, 255, 256, 257, u32::MAX] {
         assert_eq!(Refusal::try_from(n), Err(n));
     }
     let told: std::collections::HashSet<String> =
         Refusal::ALL.iter().map(|r| r.to_string()).collect();
-    assert_eq!(told.len(), 10);
+    assert_eq!(told.len(), 11);
 }
 
 #[test]
@@ -108,15 +108,19 @@ fn lengths_of_many_blocks() {
     }
 }
 
-/// Lane 0 finished, lane 1 running, the others idle.
+fn guest(number: u16) -> Owner {
+    Owner::new(number).unwrap()
+}
+
+/// Lane 0 finished for guest 1, lane 1 running for guest 257, the others idle.
 fn some_bench() -> Bench {
     let mut bench = Bench::new();
     bench
-        .open(0, Direction::Encrypt, &[1; 16], &[2; 16])
+        .open(0, guest(1), Direction::Encrypt, &[1; 16], &[2; 16])
         .unwrap();
     assert_eq!(bench.turn(1024), Ok(8));
     bench
-        .open(1, Direction::Decrypt, &[3; 16], &[4; 16])
+        .open(1, guest(257), Direction::Decrypt, &[3; 16], &[4; 16])
         .unwrap();
     assert_eq!(bench.turn(3), Ok(3));
     bench
@@ -141,42 +145,78 @@ const LONG: &[u8] = &[6; 17];
 #[test]
 fn bench_refusals_in_order() {
     let bench = some_bench();
-    for lane in [Bench::LANES, Bench::LANES + 1, 255, 256, 257, 1 << 16, 1 << 31, u32::MAX] {
+    for lane in [
+        Bench::LANES,
+        Bench::LANES + 1,
+        255,
+        256,
+        257,
+        1 << 16,
+        1 << 31,
+        u32::MAX,
+    ] {
         assert_eq!(
-            refused(&bench, |b| b.open(lane, Direction::Encrypt, SHORT, LONG)),
+            refused(&bench, |b| b.open(
+                lane,
+                guest(1),
+                Direction::Encrypt,
+                SHORT,
+                LONG
+            )),
             BadLane
         );
         assert_eq!(
-            refused(&bench, |b| b.take_into(lane, &mut [0; 17])),
+            refused(&bench, |b| b.take_into(lane, guest(257), &mut [0; 17])),
             BadLane
         );
-        assert_eq!(refused(&bench, |b| b.close(lane)), BadLane);
+        assert_eq!(refused(&bench, |b| b.close(lane, guest(1))), BadLane);
     }
     for lane in [0, 1] {
         assert_eq!(
-            refused(&bench, |b| b.open(lane, Direction::Encrypt, SHORT, LONG)),
+            refused(&bench, |b| b.open(
+                lane,
+                guest(1),
+                Direction::Encrypt,
+                SHORT,
+                LONG
+            )),
             LaneNotIdle
         );
     }
     assert_eq!(
-        refused(&bench, |b| b.open(2, Direction::Encrypt, SHORT, LONG)),
+        refused(&bench, |b| b.open(
+            2,
+            guest(1),
+            Direction::Encrypt,
+            SHORT,
+            LONG
+        )),
         BadKeyLength
     );
     assert_eq!(
-        refused(&bench, |b| b.open(2, Direction::Encrypt, KEY, LONG)),
+        refused(&bench, |b| b.open(
+            2,
+            guest(1),
+            Direction::Encrypt,
+            KEY,
+            LONG
+        )),
         BadBlockLength
     );
     for lane in [1, 2] {
-        assert_eq!(refused(&bench, |b| b.take(lane)), LaneNotFinished);
         assert_eq!(
-            refused(&bench, |b| b.take_into(lane, &mut [0; 17])),
+            refused(&bench, |b| b.take(lane, guest(257))),
+            LaneNotFinished
+        );
+        assert_eq!(
+            refused(&bench, |b| b.take_into(lane, guest(257), &mut [0; 17])),
             LaneNotFinished
         );
     }
     for length in [0, 15, 17, 32] {
         let mut out = vec![9; length];
         assert_eq!(
-            refused(&bench, |b| b.take_into(0, &mut out)),
+            refused(&bench, |b| b.take_into(0, guest(1), &mut out)),
             BadBlockLength
         );
         assert_eq!(out, vec![9; length]);
@@ -193,15 +233,19 @@ fn refusals_of_lent_records() {
     for direction in [2, 3, 255, 256, 257, 1 << 31, u32::MAX] {
         let mut lanes = *bench.records();
         assert_eq!(
-            calls::open_lane(&mut lanes, 3, Bench::LANES, direction, SHORT, LONG),
+            calls::open_lane(&mut lanes, 3, Bench::LANES, 0, direction, SHORT, LONG),
             Err(BadLane)
         );
         assert_eq!(
-            calls::open_lane(&mut lanes, 3, 0, direction, SHORT, LONG),
+            calls::open_lane(&mut lanes, 3, 0, 0, direction, SHORT, LONG),
             Err(LaneNotIdle)
         );
         assert_eq!(
-            calls::open_lane(&mut lanes, 3, 2, direction, SHORT, LONG),
+            calls::open_lane(&mut lanes, 3, 2, 0, direction, SHORT, LONG),
+            Err(NotTheOwner)
+        );
+        assert_eq!(
+            calls::open_lane(&mut lanes, 3, 2, 256, direction, SHORT, LONG),
             Err(BadDirection)
         );
         assert_eq!(lanes, *bench.records());
@@ -210,12 +254,15 @@ fn refusals_of_lent_records() {
         let lent = vec![Lane::FRESH; count];
         let mut lanes = lent.clone();
         assert_eq!(
-            calls::open_lane(&mut lanes, 3, Bench::LANES, 9, SHORT, LONG),
+            calls::open_lane(&mut lanes, 3, Bench::LANES, 0, 9, SHORT, LONG),
             Err(BadBench)
         );
         assert_eq!(calls::turn(&mut lanes, 3, 5000), Err(BadBench));
-        assert_eq!(calls::take(&mut lanes, 3, Bench::LANES, &mut [0; 17]), Err(BadBench));
-        assert_eq!(calls::close(&mut lanes, 3, Bench::LANES), Err(BadBench));
+        assert_eq!(
+            calls::take(&mut lanes, 3, Bench::LANES, 0, &mut [0; 17]),
+            Err(BadBench)
+        );
+        assert_eq!(calls::close(&mut lanes, 3, Bench::LANES, 0), Err(BadBench));
         assert_eq!(lanes, lent);
     }
 }
@@ -224,17 +271,20 @@ fn refusals_of_lent_records() {
 fn unsound_benches() {
     let unsound = |lane: Lane| {
         lane != Lane::FRESH
-            && (lane.direction > 1 || !matches!((lane.phase, lane.count), (1, 0..=7) | (2, 8)))
+            && (lane.owner == 0
+                || lane.direction > 1
+                || !matches!((lane.phase, lane.count), (1, 0..=7) | (2, 8)))
     };
     let mut refusals = 0;
     for phase in [0, 1, 2, 3, 255] {
-        for direction in [0, 1, 2, 255] {
-            for count in [0, 1, 7, 8, 9, 255, 256, 263, 264, 65535] {
+        for (direction, owner) in [(0, 1), (1, 65535), (2, 1), (255, 1), (0, 0), (1, 256)] {
+            for count in [0, 1, 7, 8, 9, 255, 256, 263, 264, 65544, u32::MAX] {
                 for place in 0..Bench::LANES as usize {
                     let mut lanes = *some_bench().records();
                     lanes[place] = Lane {
                         phase,
                         direction,
+                        owner,
                         count,
                         ..lanes[place]
                     };
@@ -242,16 +292,33 @@ fn unsound_benches() {
                     if unsound(lanes[place]) {
                         refusals += 1;
                         assert_eq!(
-                            refused(&bench, |b| b.open(Bench::LANES, Direction::Encrypt, SHORT, LONG)),
+                            refused(&bench, |b| b.open(
+                                Bench::LANES,
+                                guest(1),
+                                Direction::Encrypt,
+                                SHORT,
+                                LONG
+                            )),
                             BadBench
                         );
                         assert_eq!(refused(&bench, |b| b.turn(5000)), BadBench);
-                        assert_eq!(refused(&bench, |b| b.take(Bench::LANES)), BadBench);
-                        assert_eq!(refused(&bench, |b| b.close(Bench::LANES)), BadBench);
+                        assert_eq!(
+                            refused(&bench, |b| b.take(Bench::LANES, guest(1))),
+                            BadBench
+                        );
+                        assert_eq!(
+                            refused(&bench, |b| b.close(Bench::LANES, guest(1))),
+                            BadBench
+                        );
                     } else {
                         assert!(
                             bench.clone().turn(0) == Ok(0)
-                                && bench.clone().close(place as u32) == Ok(())
+                                && calls::close(
+                                    &mut lanes.clone(),
+                                    1,
+                                    place as u32,
+                                    lanes[place].owner
+                                ) == Ok(())
                         );
                     }
                 }
@@ -262,12 +329,18 @@ fn unsound_benches() {
     for last in [Bench::LANES, Bench::LANES + 1, 255, 256, 1 << 31, u32::MAX] {
         let bench = Bench::from_records(*some_bench().records(), last);
         assert_eq!(
-            refused(&bench, |b| b.open(2, Direction::Encrypt, KEY, BLOCK)),
+            refused(&bench, |b| b.open(
+                2,
+                guest(1),
+                Direction::Encrypt,
+                KEY,
+                BLOCK
+            )),
             BadBench
         );
         assert_eq!(refused(&bench, |b| b.turn(0)), BadBench);
-        assert_eq!(refused(&bench, |b| b.take(0)), BadBench);
-        assert_eq!(refused(&bench, |b| b.close(3)), BadBench);
+        assert_eq!(refused(&bench, |b| b.take(0, guest(1))), BadBench);
+        assert_eq!(refused(&bench, |b| b.close(3, guest(1))), BadBench);
     }
 }
 
@@ -279,16 +352,23 @@ fn idle_records_are_all_zero() {
         set(&mut lanes[2]);
         let bench = Bench::from_records(lanes, 1);
         assert_eq!(
-            refused(&bench, |b| b.open(2, Direction::Encrypt, KEY, BLOCK)),
+            refused(&bench, |b| b.open(
+                2,
+                guest(1),
+                Direction::Encrypt,
+                KEY,
+                BLOCK
+            )),
             BadBench
         );
         assert_eq!(refused(&bench, |b| b.turn(1)), BadBench);
-        assert_eq!(refused(&bench, |b| b.take(0)), BadBench);
-        assert_eq!(refused(&bench, |b| b.close(2)), BadBench);
+        assert_eq!(refused(&bench, |b| b.take(0, guest(1))), BadBench);
+        assert_eq!(refused(&bench, |b| b.close(2, guest(1))), BadBench);
     };
     bits(&|l| l.direction = 1);
-    (0..16).for_each(|bit| bits(&|l| l.count = 1 << bit));
+    (0..16).for_each(|bit| bits(&|l| l.owner = 1 << bit));
     for bit in 0..32 {
+        bits(&|l| l.count = 1 << bit);
         (0..80).for_each(|word| bits(&|l| l.words[word] = 1 << bit));
         bits(&|l| l.state.s0 = 1 << bit);
         bits(&|l| l.state.s1 = 1 << bit);
@@ -301,7 +381,11 @@ fn idle_records_are_all_zero() {
 fn small_facts() {
     let open_all = || {
         let mut bench = Bench::new();
-        (0..Bench::LANES).for_each(|lane| bench.open(lane, Direction::Encrypt, KEY, BLOCK).unwrap());
+        (0..Bench::LANES).for_each(|lane| {
+            bench
+                .open(lane, guest(1), Direction::Encrypt, KEY, BLOCK)
+                .unwrap()
+        });
         bench
     };
     let phases = |bench: &Bench| bench.records().map(|lane| lane.phase);
@@ -331,20 +415,60 @@ fn small_facts() {
     }
 
     let mut bench = Bench::new();
-    bench.open(2, Direction::Encrypt, KEY, BLOCK).unwrap();
+    bench
+        .open(2, guest(1), Direction::Encrypt, KEY, BLOCK)
+        .unwrap();
     assert_eq!((bench.turn(100), bench.last_served()), (Ok(8), 2));
-    assert!(bench.take(2).is_ok() && bench.records()[2] == Lane::FRESH);
-    assert_eq!((bench.last_served(), bench.close(2)), (2, Ok(())));
+    assert!(bench.take(2, guest(1)).is_ok() && bench.records()[2] == Lane::FRESH);
+    assert_eq!((bench.last_served(), bench.close(2, guest(2))), (2, Ok(())));
     assert_eq!(bench, Bench::from_records(*Bench::new().records(), 2));
+}
+
+/// A lane is its owner's, by all sixteen bits of its number: another's take or close of it gives 11, of a finished lane too and whatever the buffer. An idle lane
+/// is anyone's to close.
+#[test]
+fn lanes_belong_to_a_guest() {
+    assert_eq!(Owner::new(0), None);
+    let bench = some_bench();
+    for (lane, owner) in [(0, 1), (1, 257)] {
+        for other in (0..16)
+            .map(|bit| owner ^ 1 << bit)
+            .chain([0, 2, 255, 256, 512, 65535])
+        {
+            let mut lanes = *bench.records();
+            for length in [0, 15, 16, 17] {
+                let mut out = vec![9; length];
+                assert_eq!(
+                    calls::take(&mut lanes, 1, lane, other, &mut out),
+                    Err(NotTheOwner)
+                );
+                assert_eq!(out, vec![9; length]);
+            }
+            assert_eq!(calls::close(&mut lanes, 1, lane, other), Err(NotTheOwner));
+            assert_eq!(lanes, *bench.records());
+        }
+    }
+    assert_eq!(refused(&bench, |b| b.take(1, guest(257))), LaneNotFinished);
+    assert!(bench.clone().take(0, guest(1)).is_ok() && bench.clone().close(1, guest(257)).is_ok());
+    for anyone in [1, 2, 256, 65535].map(guest) {
+        let mut lent = bench.clone();
+        assert_eq!(
+            (lent.take(2, anyone), lent.close(2, anyone)),
+            (Err(LaneNotFinished), Ok(()))
+        );
+        assert_eq!(lent, bench);
+    }
 }
 
 #[test]
 fn round_words_are_not_told() {
     let mut bench = Bench::new();
-    bench.open(0, Direction::Encrypt, KEY, BLOCK).unwrap();
+    bench
+        .open(0, guest(1), Direction::Encrypt, KEY, BLOCK)
+        .unwrap();
     assert_eq!(format!("{:?}", Gift128::new(&[5; 16])), "Gift128 { ... }");
     assert_eq!(
         format!("{:?}", bench.records()[0]),
-        "Lane { phase: 1, direction: 0, count: 0, .. }"
+        "Lane { phase: 1, direction: 0, owner: 1, count: 0, .. }"
     );
 }

@@ -9,19 +9,20 @@ use Rattle.bench.proofs.close.Tie as tie
 
 returns : tie.Need-returns
 returns c =
-    let a = c .before .before .before .args in
-    close-refused (a .b) (c .before .before .sound .ensures) (a .lane) (c .before .close-code .ensures) (c .if1 .taken)
+    let a = c .before .before .before .before .args in
+    close-refused (a .b) (c .before .before .before .sound .ensures) (a .lane) (a .owner) (c .before .before .admits-at .ensures) (c .before .close-code .ensures) (c .if1 .taken)
 
 put-requires : tie.Need-put-requires
-put-requires c κs = close-passed _ _ (sym (c .before .before .close-code .ensures) ∙ c .before .if1 .left) .lane-lt
+put-requires c κs = close-passed _ _ _ (sym (c .before .before .close-code .ensures) ∙ c .before .if1 .left) .lane-lt
 
 returns-2 : tie.Need-returns-2
 returns-2 c =
     let at = c .before .before in
-    let a = at .before .before .before .args in
-    close-done (a .b) (at .before .before .sound .ensures) (a .lane) (at .before .close-code .ensures) (at .if1 .left) (c .put .ensures ∙ ap (put (a .b) (a .lane)) (c .before .idle-lane .ensures))
+    let a = at .before .before .before .before .args in
+    close-done (a .b) (at .before .before .before .sound .ensures) (a .lane) (a .owner) (at .before .before .admits-at .ensures) (at .before .close-code .ensures) (at .if1 .left)
+    (c .put .ensures ∙ ap (put (a .b) (a .lane)) (c .before .idle-lane .ensures))
 
 pub close-spec : {M : Type 1} → statement M
 close-spec =
     tie.close
-    (tie.spec (λ c κs. search needs) (λ c κs. search needs) returns (λ c κs. search needs) put-requires returns-2)
+    (tie.spec (λ c κs. search needs) (λ c κs. search needs) (λ c κs. search needs) returns (λ c κs. search needs) put-requires returns-2)

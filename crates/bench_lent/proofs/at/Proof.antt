@@ -38,7 +38,7 @@ module _ {M : Type 1} (𝓤 : URA M) (H : Heap 𝓤) (A : Atoms 𝓤) (W : Given
   abbrev n : ℕ
   n = a .0
 
-  fits : n * 340 < 2 ^ 64
+  fits : n * 344 < 2 ^ 64
   fits = omega (arith, room .0, room .1, inside)
 
   walk : ent 𝓤 (sep 𝓤 (sem 𝓤 H A (held b o (length ys) κ γ ys)) (A .lft κ s)) (WpFn 𝓤 H C Λ code.function (mach b o (length ys) ∷ vint w64 n ∷ []) (Leaves At 𝓤 H A W κ s b o γ ys a))

@@ -24,13 +24,14 @@ arms (inr y) f g = inr (g y)
 
 returns : tie.Need-returns
 returns c =
-    let at = c .before .before .before in
-    (refl, both _ _ _ (arms (at .if1 .came) (λ w. (w .0 .taken, w .1 ∙ at .before .sound-lane .ensures)) (λ w. (w .0 .left, w .1))), rw (eq-eqb _ _ (c .if2 .taken)))
+    let at = c .before .before .before .before in
+    let here = eq-eqb _ _ (c .before .if2 .taken) in
+    (refl, both _ _ _ (arms (at .if1 .came) (λ w. (w .0 .taken, w .1 ∙ at .before .sound-lane .ensures)) (λ w. (w .0 .left, w .1))), rw here, rw here (c .admits .ensures))
 
 returns-2 : tie.Need-returns-2
 returns-2 c =
     let at = c .before .before .before in
-    (refl, both _ _ _ (arms (at .if1 .came) (λ w. (w .0 .taken, w .1 ∙ at .before .sound-lane .ensures)) (λ w. (w .0 .left, w .1))), rw (ne-eqb _ _ (c .if2 .left)))
+    (refl, both _ _ _ (arms (at .if1 .came) (λ w. (w .0 .taken, w .1 ∙ at .before .sound-lane .ensures)) (λ w. (w .0 .left, w .1))), rw (ne-eqb _ _ (c .if2 .left)), rw (ne-eqb _ _ (c .if2 .left)))
 
 pub noted-spec : {M : Type 1} → statement M
-noted-spec = tie.close (tie.spec (λ c κs. search needs) add-next returns returns-2)
+noted-spec = tie.close (tie.spec (λ c κs. search needs) add-next (λ c κs. search needs) returns returns-2)

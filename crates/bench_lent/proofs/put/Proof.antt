@@ -41,7 +41,7 @@ module _ {M : Type 1} (𝓤 : URA M) (H : Heap 𝓤) (A : Atoms 𝓤) (W : Given
   abbrev l : Lane
   l = a .1 .0
 
-  fits : n * 340 < 2 ^ 64
+  fits : n * 344 < 2 ^ 64
   fits = omega (arith, room .0, room .1, inside)
 
   same : length (set ys n l) ≡ length ys

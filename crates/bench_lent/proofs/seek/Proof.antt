@@ -76,7 +76,7 @@ module _ {M : Type 1} (𝓤 : URA M) (H : Heap 𝓤) (A : Atoms 𝓤) (W : Given
   fm : FmC 𝓤 H (W .laws) (𝓣 .C)
   fm = fmOf 𝓤 H (W .laws) 𝓣
 
-  fits : {n : ℕ} → n < length ys → n * 340 < 2 ^ 64
+  fits : {n : ℕ} → n < length ys → n * 344 < 2 ^ 64
   fits inside = omega (arith, room .0, room .1, inside)
 
   walk : ent 𝓤 (sep 𝓤 (sem 𝓤 H A (held b o (length ys) κ γ ys)) (A .lft κ s)) (WpFn 𝓤 H (𝓣 .C) (𝓣 .Λ) code.function (mach b o (length ys) ∷ vint w64 from ∷ []) (Leaves Seek 𝓤 H A W κ s b o γ ys a))

@@ -1,6 +1,6 @@
 //! Every answer with a block in it, held to the crate's, on random and on structured keys and blocks.
 
-use gift_host::{calls, Bench, Direction, Gift128, Lane, Refusal};
+use gift_host::{calls, Bench, Direction, Gift128, Lane, Owner, Refusal};
 
 use crate::{after_turns, by_key, by_words, round_words};
 
@@ -131,13 +131,28 @@ fn many_blocks() {
     }
 }
 
+/// A lane's opening: by whom, and what it asked for.
+type Opening = Option<(Owner, Direction, [u8; 16], [u8; 16])>;
+
+fn guest(number: u16) -> Owner {
+    Owner::new(number).unwrap()
+}
+
+/// Who takes or closes: mostly the lane's owner, and else some guest.
+fn caller(opening: &Opening, numbers: &mut Numbers) -> Owner {
+    match opening {
+        Some((owner, ..)) if numbers.below(4) != 0 => *owner,
+        _ => guest(1 + 257 * numbers.below(3) as u16),
+    }
+}
+
 /// A walk over one bench: a lane stands where the crate's quintuple rounds stand after its own turns, and yields the crate's block.
 #[test]
 fn lanes_of_a_bench() {
     let mut numbers = Numbers(5);
     let mut bench = Bench::new();
-    let mut openings = [None; Bench::LANES as usize];
-    let mut taken = 0;
+    let mut openings: [Opening; Bench::LANES as usize] = [None; Bench::LANES as usize];
+    let (mut taken, mut stolen) = (0, 0);
     for _ in 0..30_000 {
         let lane = numbers.below(Bench::LANES);
         let opening = &mut openings[lane as usize];
@@ -148,50 +163,47 @@ fn lanes_of_a_bench() {
                     numbers.block(),
                     numbers.block(),
                 );
-                match bench.open(lane, way, &key, &block) {
-                    Ok(()) => assert_eq!(opening.replace((way, key, block)), None),
+                let owner = guest(1 + 257 * numbers.below(3) as u16);
+                match bench.open(lane, owner, way, &key, &block) {
+                    Ok(()) => assert_eq!(opening.replace((owner, way, key, block)), None),
                     Err(refusal) => assert!(refusal == Refusal::LaneNotIdle && opening.is_some()),
                 }
             }
             4..=7 => {
                 let asked = numbers.below(9);
-                let before: u32 = bench
-                    .records()
-                    .iter()
-                    .map(|lane| u32::from(lane.count))
-                    .sum();
+                let before: u32 = bench.records().iter().map(|lane| lane.count).sum();
                 let lacking: u32 = bench
                     .records()
                     .iter()
                     .filter(|lane| lane.phase == Lane::RUNNING)
-                    .map(|lane| 8 - u32::from(lane.count))
+                    .map(|lane| 8 - lane.count)
                     .sum();
                 let made = bench.turn(asked).unwrap();
                 assert_eq!(made, asked.min(lacking));
                 assert_eq!(
-                    bench
-                        .records()
-                        .iter()
-                        .map(|lane| u32::from(lane.count))
-                        .sum::<u32>(),
+                    bench.records().iter().map(|lane| lane.count).sum::<u32>(),
                     before + made
                 );
             }
-            8..=10 => match bench.take(lane) {
+            8..=10 => match bench.take(lane, caller(opening, &mut numbers)) {
                 Ok(block) => {
-                    let (way, key, from) = opening.take().unwrap();
+                    let (_, way, key, from) = opening.take().unwrap();
                     assert_eq!(block, by_key(way, &key, &from));
                     taken += 1;
+                }
+                Err(Refusal::NotTheOwner) => {
+                    assert!(opening.is_some());
+                    stolen += 1;
                 }
                 Err(refusal) => {
                     assert_eq!(refusal, Refusal::LaneNotFinished);
                     assert!(bench.records()[lane as usize].count < 8);
                 }
             },
-            _ => {
-                bench.close(lane).unwrap();
-                *opening = None;
-            }
+            _ => match bench.close(lane, caller(opening, &mut numbers)) {
+                Ok(()) => *opening = None,
+                Err(refusal) => assert!(refusal == Refusal::NotTheOwner && opening.is_some()),
+            },
         }
         for (record, opening) in bench.records().iter().zip(&openings) {
             match opening {
@@ -199,12 +211,14 @@ fn lanes_of_a_bench() {
                     (
                         record.phase,
                         record.direction,
+                        record.owner,
                         record.count,
                         record.state == Lane::FRESH.state
                     ),
-                    (Lane::IDLE, 0, 0, true)
+                    (Lane::IDLE, 0, 0, 0, true)
                 ),
-                Some((way, key, block)) => {
+                Some((owner, way, key, block)) => {
+                    assert_eq!(record.owner, owner.number());
                     assert_eq!(
                         record.phase,
                         if record.count == 8 {
@@ -221,4 +235,5 @@ fn lanes_of_a_bench() {
         }
     }
     assert!(taken > 2_000, "only {taken} lanes were taken from");
+    assert!(stolen > 500, "only {stolen} takes were another's");
 }

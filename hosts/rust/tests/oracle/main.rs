@@ -39,11 +39,11 @@ fn by_key(direction: Direction, key: &[u8; 16], block: &[u8; 16]) -> [u8; 16] {
 }
 
 /// A block after so many turns of a lane, each a quintuple round.
-fn after_turns(direction: Direction, key: &[u8; 16], block: &[u8; 16], turns: u16) -> State {
+fn after_turns(direction: Direction, key: &[u8; 16], block: &[u8; 16], turns: u32) -> State {
     let words = round_words(key);
     let mut s = [0; 4];
     primitives::packing(&mut s, block);
-    for i in (0..usize::from(turns)).map(|turn| 5 * turn) {
+    for i in (0..turns as usize).map(|turn| 5 * turn) {
         match direction {
             Direction::Encrypt => {
                 primitives::quintuple_round(&mut s, &words[2 * i..], &consts::GIFT_RC[i..])

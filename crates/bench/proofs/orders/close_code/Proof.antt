@@ -1,4 +1,4 @@
--- `bench::orders::close_code` tries 10, 5.
+-- `bench::orders::close_code` tries 10, 5, 11.
 use borrow.Author.Tests.{not-true, not-false, lt-ltb, le-ltb}
 use Rattle.bench.specs.Turning.{laneCount}
 use Rattle.bench.specs.Orders.{closeCode}
@@ -15,7 +15,15 @@ returns-2 c = rw (not-false (c .before .before .args .sound) (c .before .if1 .le
 
 returns-3 : tie.Need-returns-3
 unfolding closeCode laneCount
-returns-3 c = rw (not-false (c .before .before .args .sound) (c .before .if1 .left), lt-ltb _ laneCount (c .if2 .left))
+returns-3 c =
+    let a = c .before .before .before .args in
+    rw (not-false (a .sound) (c .before .before .if1 .left), lt-ltb _ laneCount (c .before .if2 .left), not-true (a .admitted) (c .if3 .taken))
+
+returns-4 : tie.Need-returns-4
+unfolding closeCode laneCount
+returns-4 c =
+    let a = c .before .before .before .args in
+    rw (not-false (a .sound) (c .before .before .if1 .left), lt-ltb _ laneCount (c .before .if2 .left), not-false (a .admitted) (c .if3 .left))
 
 pub close-code-spec : {M : Type 1} → statement M
-close-code-spec = tie.close (tie.spec returns returns-2 returns-3)
+close-code-spec = tie.close (tie.spec returns returns-2 returns-3 returns-4)

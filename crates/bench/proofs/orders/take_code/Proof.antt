@@ -1,4 +1,4 @@
--- `bench::orders::take_code` tries 10, 5, 7, 2.
+-- `bench::orders::take_code` tries 10, 5, 11, 7, 2.
 use borrow.Author.Tests.{not-true, not-false, lt-ltb, le-ltb, ne-eqb}
 use Rattle.bench.specs.Turning.{laneCount}
 use Rattle.bench.specs.Orders.{takeCode}
@@ -15,19 +15,30 @@ returns-2 c = rw (not-false (c .before .before .args .sound) (c .before .if1 .le
 
 returns-3 : tie.Need-returns-3
 unfolding takeCode laneCount
-returns-3 c = rw (not-false (c .before .before .before .args .sound) (c .before .before .if1 .left), lt-ltb _ laneCount (c .before .if2 .left), ne-eqb _ 2 (c .if3 .taken))
+returns-3 c =
+    let a = c .before .before .before .args in
+    rw (not-false (a .sound) (c .before .before .if1 .left), lt-ltb _ laneCount (c .before .if2 .left), not-true (a .admitted) (c .if3 .taken))
 
 returns-4 : tie.Need-returns-4
 unfolding takeCode laneCount
 returns-4 c =
     let at = c .before in
-    rw (not-false (c .before .before .before .before .args .sound) (at .before .before .if1 .left), lt-ltb _ laneCount (at .before .if2 .left), at .if3 .left, ne-eqb _ 16 (c .if4 .taken))
+    let a = at .before .before .before .args in
+    rw (not-false (a .sound) (at .before .before .if1 .left), lt-ltb _ laneCount (at .before .if2 .left), not-false (a .admitted) (at .if3 .left), ne-eqb _ 2 (c .if4 .taken))
 
 returns-5 : tie.Need-returns-5
 unfolding takeCode laneCount
 returns-5 c =
-    let at = c .before in
-    rw (not-false (c .before .before .before .before .args .sound) (at .before .before .if1 .left), lt-ltb _ laneCount (at .before .if2 .left), at .if3 .left, c .if4 .left)
+    let at = c .before .before in
+    let a = at .before .before .before .args in
+    rw (not-false (a .sound) (at .before .before .if1 .left), lt-ltb _ laneCount (at .before .if2 .left), not-false (a .admitted) (at .if3 .left), c .before .if4 .left, ne-eqb _ 16 (c .if5 .taken))
+
+returns-6 : tie.Need-returns-6
+unfolding takeCode laneCount
+returns-6 c =
+    let at = c .before .before in
+    let a = at .before .before .before .args in
+    rw (not-false (a .sound) (at .before .before .if1 .left), lt-ltb _ laneCount (at .before .if2 .left), not-false (a .admitted) (at .if3 .left), c .before .if4 .left, c .if5 .left)
 
 pub take-code-spec : {M : Type 1} → statement M
-take-code-spec = tie.close (tie.spec returns returns-2 returns-3 returns-4 returns-5)
+take-code-spec = tie.close (tie.spec returns returns-2 returns-3 returns-4 returns-5 returns-6)
