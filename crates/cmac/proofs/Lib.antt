@@ -1,0 +1,7 @@
+-- Laws of the tag: a block written byte by byte, strings, subkeys, the chain, the last block, pieces; and that no call has a second outcome.
+pub mod Filling
+pub mod Strings
+pub mod Subkeys
+pub mod Chaining
+pub mod LastBlock
+pub mod Pieces

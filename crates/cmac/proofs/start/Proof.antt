@@ -1,0 +1,16 @@
+-- `cmac::start`: the words of a cipher made from the key, or eighty zeros, and nothing fed.
+use mathlib.Core.Path.{_≡_, refl, ap, _∙_}
+use Prim.Native.Nat.{ℕ}
+use borrow.Author.Needs.{needs}
+use Rattle.cmac.specs.Standard.{zeroBlock}
+use Rattle.cmac.specs.Calls.{startedBy}
+use Rattle.cmac.proofs.Pieces.{done-after}
+use Rattle.cmac.proofs.start.Statement.{statement}
+use Rattle.cmac.proofs.start.Tie as tie
+
+returns : tie.Need-returns
+unfolding startedBy zeroBlock
+returns c = record { is = c .before .before .new .ensures .is; leaves = ap startedBy (c .before .before .new .ensures .leaves) ∙ done-after startedBy _ _ _ }
+
+pub start-spec : {M : Type 1} → statement M
+start-spec = tie.close (tie.spec (λ c κs. search needs) returns)
