@@ -9,9 +9,10 @@ use lib.ListN.{length, take, drop, length-append, length-take, length-drop}
 use lib.Seq.{drop-drop, drop-append-le, take-append-le}
 use borrow.Author.Tests.{ne-eqb}
 use Rattle.answers.specs.Order.{ifDone}
+use Rattle.published.specs.Gift128.{encrypted}
 use Rattle.published.proofs.Reading.{length-toBytes}
 use Rattle.gift128.specs.Calls.{EncryptsByWords, encryptedBy, wordsCode, blockCode}
-use Rattle.cmac.specs.Standard.{_⊕_, blockCount, before, blocks, past, chained}
+use Rattle.cmac.specs.Standard.{_⊕_, zeroBlock, blockCount, before, blocks, past, lastBlock, chained, cmac}
 
 -- ---- the cipher by words
 
@@ -72,3 +73,13 @@ chained-append ciph c (m ∷ ms) ns = chained-append ciph (ciph (c ⊕ m)) ms ns
 pub chained-more : (ciph : List ℕ → List ℕ) (c : List ℕ) (n : ℕ) (m : List ℕ) → chained ciph c (blocks (n + 1) m) ≡ ciph (chained ciph c (blocks n m) ⊕ take 16 (past n m))
 unfolding chained blocks
 chained-more ciph c n m = ap (chained ciph c) (blocks-add n 1 m) ∙ chained-append ciph c (blocks n m) (take 16 (past n m) ∷ [])
+
+-- ---- a tag has sixteen bytes
+
+pub length-encrypted : (key b : List ℕ) → length (encrypted key b) ≡ 16
+unfolding encrypted
+length-encrypted key b = length-toBytes 16 _
+
+pub length-cmac : (ciph : List ℕ → List ℕ) (m : List ℕ) → ((b : List ℕ) → length (ciph b) ≡ 16) → length (cmac ciph m) ≡ 16
+unfolding cmac chained
+length-cmac ciph m h = ap length (chained-append ciph zeroBlock (blocks (before m) m) (lastBlock ciph (past (before m) m) ∷ [])) ∙ h _

@@ -71,7 +71,7 @@ module _ (from : ℕ) (block bytes : List ℕ) (len : length block ≡ 16) (fits
 
 -- ---- compared
 
-false-not-true : false ≡ true → ⊥
+pub false-not-true : false ≡ true → ⊥
 false-not-true e = let z : _≡_ {A = ℕ} 0 1 = cc in omega arith
 
 pub same-refl : (xs : List ℕ) → same xs xs ≡ true

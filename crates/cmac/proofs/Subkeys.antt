@@ -46,7 +46,7 @@ doubled (b ∷ bs) =
         let d3 : b / 128 * q ≡ b / 128 * p * 256 = ap (λ (x : ℕ). b / 128 * x) e ∙ sym (mul-assoc (b / 128) p 256) in
         let whole : b ≡ 128 * (b / 128) + b % 128 = omega arith in
         let d4 : b * p ≡ 128 * (b / 128 * p) + b % 128 * p =
-            ap (λ (x : ℕ). x * p) whole ∙ add-mul (128 * (b / 128)) (b % 128) p ∙ ap (λ (x : ℕ). x + b % 128 * p) (mul-assoc 128 (b / 128) p) in
+        ap (λ (x : ℕ). x * p) whole ∙ add-mul (128 * (b / 128)) (b % 128) p ∙ ap (λ (x : ℕ). x + b % 128 * p) (mul-assoc 128 (b / 128) p) in
         atoms (b % 128 * p) (t * p) (b / 128 * p) f g _ _ _ _ d1 d2 d3 d4 h
 
 bytes-shifted : (bs : List ℕ) → Bytes bs → Bytes (shiftedBytes bs)

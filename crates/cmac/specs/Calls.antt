@@ -41,13 +41,12 @@ kept m = m ++ replicate (16 - length m) 0
 unfoldable pub fed : Mac → List ℕ → Mac
 fed s piece =
     let m : List ℕ = heldBy s ++ piece in
-    record
-      {
-        words = s .words;
-        chain = chained (encryptedBy (s .words)) (s .chain) (blocks (before m) m);
-        held = kept (past (before m) m);
-        count = length (past (before m) m);
-      }
+    record {
+      words = s .words;
+      chain = chained (encryptedBy (s .words)) (s .chain) (blocks (before m) m);
+      held = kept (past (before m) m);
+      count = length (past (before m) m);
+    }
 
 -- the tag of what was fed
 unfoldable pub tagOf : Mac → List ℕ
@@ -79,3 +78,15 @@ Feeds s piece = Gives (pieceCode (s .count)) (fed s piece) s
 
 abbrev pub TagsState : (s : Mac) (tag : List ℕ) → ℕ → List ℕ → Type 0
 TagsState s tag = Gives (tagCode (s .count) (length tag)) (tagOf s) tag
+
+-- ---- a message in pieces
+
+-- the state t is what s becomes when pieces are fed to it, a call for each, whatever numbers they give
+pub data FedBy : Mac → List (List ℕ) → Mac → Type 0 where
+  none : (s : Mac) → FedBy s [] s
+  more : (s t u : Mac) (piece : List ℕ) (pieces : List (List ℕ)) (number : ℕ) → Feeds s piece number t → FedBy t pieces u → FedBy s (piece ∷ pieces) u
+
+-- the pieces one after another
+unfoldable pub joined : List (List ℕ) → List ℕ
+joined [] = []
+joined (piece ∷ pieces) = piece ++ joined pieces

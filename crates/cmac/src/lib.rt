@@ -136,25 +136,34 @@ fn absorb_all(words: &[u32], chain: &mut [u8], bytes: &[u8]) -> usize
     a
 }
 
-// A piece: how many bytes are then held.
-fn feed(words: &[u32], chain: &mut [u8], held: &mut [u8], count: usize, piece: &[u8]) -> usize
+// Bytes where none are held: how many are then held.
+fn digest(words: &[u32], chain: &mut [u8], held: &mut [u8], bytes: &[u8]) -> usize
+    requires { ⌜ length (now words) ≡ 80 ⌝ }
+    requires { ⌜ length (now chain) ≡ 16 ⌝ }
+    requires { ⌜ length (now held) ≡ 16 ⌝ }
+    ensures { λ r. ⌜ Fills (now (words .entry)) (now (chain .entry)) (now (bytes .entry)) r (now (chain .exit)) (now (held .exit)) ⌝ }
+{
+    let done = absorb_all(words, chain, bytes);
+    hold(held, 0, &bytes[done..]);
+    bytes.len() - done
+}
+
+// Bytes after those that are held.
+fn feed(words: &[u32], chain: &mut [u8], held: &mut [u8], count: usize, bytes: &[u8]) -> usize
     requires { ⌜ length (now words) ≡ 80 ⌝ }
     requires { ⌜ length (now chain) ≡ 16 ⌝ }
     requires { ⌜ length (now held) ≡ 16 ⌝ }
     requires { ⌜ count ≤ 16 ⌝ }
-    ensures { λ r. ⌜ Fills (now (words .entry)) (now (chain .entry)) (take count (now (held .entry)) ++ now (piece .entry)) r (now (chain .exit)) (now (held .exit)) ⌝ }
+    ensures { λ r. ⌜ Fills (now (words .entry)) (now (chain .entry)) (take count (now (held .entry)) ++ now (bytes .entry)) r (now (chain .exit)) (now (held .exit)) ⌝ }
 {
     let room = 16 - count;
-    if piece.len() <= room {
-        hold(held, count, piece);
-        return count + piece.len();
+    if bytes.len() <= room {
+        hold(held, count, bytes);
+        return count + bytes.len();
     }
-    hold(held, count, &piece[0..room]);
+    hold(held, count, &bytes[0..room]);
     absorb(words, chain, held);
-    let rest = &piece[room..];
-    let done = absorb_all(words, chain, rest);
-    hold(held, 0, &rest[done..]);
-    rest.len() - done
+    digest(words, chain, held, &bytes[room..])
 }
 
 // ---- the last block

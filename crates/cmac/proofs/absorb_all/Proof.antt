@@ -50,8 +50,7 @@ loop-again c =
     let start = c .before .before .before .before .before .before .before .before .before .before in
     let bytes : List ℕ = now (start .args .bytes) in
     let last = before-is bytes in
-    let at = l .inv .0 in
-    (
+    let at = l .inv .0 in (
       omega arith,
       omega arith,
       omega arith,

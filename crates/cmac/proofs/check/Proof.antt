@@ -1,48 +1,37 @@
+-- `cmac::check`: its number first, and if that is 0 the message's tag compared with the one given.
+use mathlib.Core.Path.{_≡_, refl, sym, ap, _∙_}
+use mathlib.Core.List.{List}
+use Prim.Native.Nat.{ℕ}
 use borrow.Author.Needs.{needs}
+use denote.Ref.{now}
+use Rattle.answers.proofs.Outcome.{refuses, done}
+use Rattle.gift128.proofs.Answers.{key-passed}
+use Rattle.cmac.specs.Calls.{same}
+use Rattle.cmac.proofs.Pieces.{tagged}
 use Rattle.cmac.proofs.check.Statement.{statement}
 use Rattle.cmac.proofs.check.Tie as tie
-use Rattle.cmac.proofs.check.Reads as reads
-use Rattle.cmac.proofs.check.Lts as lts
-use Rattle.cmac.proofs.orders.key_code.Reads as key-code-reads
-use Rattle.cmac.proofs.same_tags.Reads as same-tags-reads
-use Rattle.cmac.proofs.whole.Reads as whole-reads
 
--- src/lib.rt:298:9
-key-code-requires : tie.Need-key-code-requires
-key-code-requires c κs = search needs
-
--- src/lib.rt:300:9
 returns : tie.Need-returns
-returns c = ?
+returns c = refuses (c .before .key-code .ensures) (c .if1 .taken)
 
--- src/lib.rt:303:25
-slice-aggregate-whole : tie.Need-slice-aggregate-whole
-slice-aggregate-whole c = search needs
-
--- src/lib.rt:303:5
-whole-requires : tie.Need-whole-requires
-whole-requires c κs = search needs
-
--- src/lib.rt:304:30
-slice-aggregate-same-tags : tie.Need-slice-aggregate-same-tags
-slice-aggregate-same-tags c = search needs
-
--- src/lib.rt:304:9
 same-tags-requires : tie.Need-same-tags-requires
-same-tags-requires c κs = ?
+same-tags-requires c κs = (key-passed _ _ (sym (c .before .before .before .before .before .key-code .ensures) ∙ c .before .before .before .before .if1 .left) .1, c .before .before .whole .kept .1 .1 .0)
 
--- src/lib.rt:295:1
 returns-2 : tie.Need-returns-2
-returns-2 c = ?
+returns-2 c =
+    let a = c .before .before .before .before .before .before .before .before .before .before .args in
+    let long = key-passed _ _ (sym (c .before .before .before .before .before .before .key-code .ensures) ∙ c .before .before .before .before .before .if1 .left) in
+    done (c .before .before .before .before .before .before .key-code .ensures) (c .before .before .before .before .before .if1 .left)
+    (c .same-tags .ensures ∙ ap (same (now (a .tag))) (tagged (now (a .key)) (now (a .message)) _ (long .0) refl (c .before .before .before .whole .ensures)))
 
 pub check-spec : {M : Type 1} → statement M
 check-spec =
     tie.close
     (tie.spec
-    key-code-requires
+    (λ c κs. search needs)
     returns
-    slice-aggregate-whole
-    whole-requires
-    slice-aggregate-same-tags
+    (λ c. search needs)
+    (λ c κs. search needs)
+    (λ c. search needs)
     same-tags-requires
     returns-2)

@@ -29,21 +29,20 @@ slice-write-block c =
     let start = c .before .before .before .before .before in
     let a = start .args in
     let long : length (l .block) ≡ length (now (a .block)) =
-        written-length (kept (take (a .from) (now (a .block)) ++ now (a .bytes))) (now (a .block)) (l .block) (l .i)
-        (kept-length (a .from) (now (a .block)) (now (a .bytes)) (start .pre .0) (start .pre .1)) (omega arith) (l .inv .2) in
+    written-length (kept (take (a .from) (now (a .block)) ++ now (a .bytes))) (now (a .block)) (l .block) (l .i)
+    (kept-length (a .from) (now (a .block)) (now (a .bytes)) (start .pre .0) (start .pre .1)) (omega arith) (l .inv .2) in
     omega arith
 
 loop-again : tie.Need-loop-again Inv-loop μ-loop
 loop-again c =
     let l = c .before .before .loop in
     let start = c .before .before .before .before .before in
-    let a = start .args in
-    (
+    let a = start .args in (
       omega arith,
       omega arith,
       written-more (kept (take (a .from) (now (a .block)) ++ now (a .bytes))) (now (a .block)) (l .block) (l .i) (c .byte-at .result)
-      (kept-length (a .from) (now (a .block)) (now (a .bytes)) (start .pre .0) (start .pre .1)) (omega arith) (l .inv .2)
-      (c .byte-at .ensures ∙ kept-byte (a .from) (now (a .block)) (now (a .bytes)) (start .pre .0) (start .pre .1) (l .i) (l .inv .0)),
+          (kept-length (a .from) (now (a .block)) (now (a .bytes)) (start .pre .0) (start .pre .1)) (omega arith) (l .inv .2)
+          (c .byte-at .ensures ∙ kept-byte (a .from) (now (a .block)) (now (a .bytes)) (start .pre .0) (start .pre .1) (l .i) (l .inv .0)),
     )
 
 same-length : tie.Need-same-length Inv-loop μ-loop

@@ -29,7 +29,7 @@ loop-again c =
     let y : List ℕ = now (start .args .other) in
     let even : length x ≡ length y = start .pre .0 ∙ sym (start .pre .1) in
     let next = written-more (x ⊕ y) x (l .block) (l .i) (bitXor (getD (l .block) (l .i) 0) (getD y (l .i) 0)) (length-⊕ x y even) (omega arith) (l .inv .2)
-        (ap (λ (b : ℕ). bitXor b (getD y (l .i) 0)) (written-here (x ⊕ y) x (l .block) (l .i) (length-⊕ x y even) (omega arith) (l .inv .2)) ∙ sym (getD-⊕ x y (l .i) even)) in
+    (ap (λ (b : ℕ). bitXor b (getD y (l .i) 0)) (written-here (x ⊕ y) x (l .block) (l .i) (length-⊕ x y even) (omega arith) (l .inv .2)) ∙ sym (getD-⊕ x y (l .i) even)) in
     (omega arith, simp length-set (l .inv .1), next)
 
 same-length : tie.Need-same-length Inv-loop μ-loop

@@ -1,57 +1,44 @@
+-- `cmac::piece`: its number first, and if that is 0 the bytes fed.
+use mathlib.Core.Path.{_≡_, sym, _∙_}
+use mathlib.Core.List.{List, _++_}
+use Prim.Native.Nat.{ℕ}
+use native.Mathlib.Omega.{arith}
+use lib.ListN.{length}
 use borrow.Author.Needs.{needs}
+use denote.Ref.{now}
+use Rattle.answers.proofs.Outcome.{refuses, done}
+use Rattle.cmac.specs.Calls.{heldBy}
+use Rattle.cmac.proofs.Pieces.{piece-passed, past-short, fed-by}
 use Rattle.cmac.proofs.piece.Statement.{statement}
 use Rattle.cmac.proofs.piece.Tie as tie
-use Rattle.cmac.proofs.piece.Reads as reads
-use Rattle.cmac.proofs.piece.Lts as lts
-use Rattle.cmac.proofs.feed.Reads as feed-reads
-use Rattle.cmac.proofs.orders.piece_code.Reads as piece-code-reads
 
--- src/lib.rt:231:9
-piece-code-requires : tie.Need-piece-code-requires
-piece-code-requires c κs = search needs
-
--- src/lib.rt:233:9
 returns : tie.Need-returns
-returns c = ?
+returns c = refuses (c .before .piece-code .ensures) (c .if1 .taken)
 
--- src/lib.rt:238:22
-slice-aggregate-feed : tie.Need-slice-aggregate-feed
-slice-aggregate-feed c = search needs
-
--- src/lib.rt:238:30
-slice-aggregate-feed-2 : tie.Need-slice-aggregate-feed-2
-slice-aggregate-feed-2 c = search needs
-
--- src/lib.rt:238:42
-slice-aggregate-feed-3 : tie.Need-slice-aggregate-feed-3
-slice-aggregate-feed-3 c = search needs
-
--- src/lib.rt:238:53
-cast-feed : tie.Need-cast-feed
-cast-feed c = search needs
-
--- src/lib.rt:238:9
 feed-requires : tie.Need-feed-requires
-feed-requires c κs = ?
+feed-requires c κs =
+    let words : length (c .before .before .before .before .before .before .before .before .before .before .args .state .words) ≡ 80 = search needs in
+    let chain : length (c .before .before .before .before .before .before .before .before .before .before .args .state .chain) ≡ 16 = search needs in
+    let held : length (c .before .before .before .before .before .before .before .before .before .before .args .state .held) ≡ 16 = search needs in
+    (words, (chain, (held, piece-passed _ (sym (c .before .before .before .before .before .before .before .before .piece-code .ensures) ∙ c .before .before .before .before .before .before .before .if1 .left))))
 
--- src/lib.rt:243:16
 cast-t20 : tie.Need-cast-t20
-cast-t20 c = ?
+cast-t20 c = omega (arith, c .before .before .feed .ensures .counts, past-short (heldBy (c .before .before .before .before .before .before .before .before .before .before .before .before .before .args .state) ++ now (c .before .before .before .before .before .before .before .before .before .before .before .before .before .args .bytes)))
 
--- src/lib.rt:228:1
 returns-2 : tie.Need-returns-2
-returns-2 c = ?
+returns-2 c =
+    done (c .before .before .before .before .before .before .before .before .before .before .before .piece-code .ensures) (c .before .before .before .before .before .before .before .before .before .before .if1 .left) (fed-by (c .before .before .before .before .before .before .before .before .before .before .before .before .before .args .state) (now (c .before .before .before .before .before .before .before .before .before .before .before .before .before .args .bytes)) _ _ _ (c .before .before .feed .ensures))
 
 pub piece-spec : {M : Type 1} → statement M
 piece-spec =
     tie.close
     (tie.spec
-    piece-code-requires
+    (λ c κs. search needs)
     returns
-    slice-aggregate-feed
-    slice-aggregate-feed-2
-    slice-aggregate-feed-3
-    cast-feed
+    (λ c. search needs)
+    (λ c. search needs)
+    (λ c. search needs)
+    (λ c. search needs)
     feed-requires
     cast-t20
     returns-2)

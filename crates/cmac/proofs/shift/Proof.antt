@@ -32,12 +32,11 @@ loop-again c =
     let l = c .before .before .before .before .loop in
     let x : List ℕ = now (c .before .before .before .before .before .before .args .block) in
     let here : getD (l .block) (l .i) 0 ≡ getD x (l .i) 0 = written-here (shiftedBytes x) x (l .block) (l .i) (length-shiftedBytes x) (omega arith) (l .inv .2) in
-    let next : getD (l .block) (l .i + 1) 0 ≡ getD x (l .i + 1) 0 = written-rest (shiftedBytes x) x (l .block) (l .i) 1 (length-shiftedBytes x) (omega arith) (l .inv .2) in
-    (
+    let next : getD (l .block) (l .i + 1) 0 ≡ getD x (l .i + 1) 0 = written-rest (shiftedBytes x) x (l .block) (l .i) 1 (length-shiftedBytes x) (omega arith) (l .inv .2) in (
       omega arith,
       simp length-set (l .inv .1),
       written-more (shiftedBytes x) x (l .block) (l .i) (getD (l .block) (l .i) 0 % 128 * 2 + c .before .byte-at .result / 128) (length-shiftedBytes x) (omega arith) (l .inv .2)
-      (ap₂ (λ (a b : ℕ). a % 128 * 2 + b / 128) here (c .before .byte-at .ensures ∙ next ∙ ap (λ (n : ℕ). getD x n 0) (add-one (l .i))) ∙ sym (getD-shiftedBytes x (l .i))),
+          (ap₂ (λ (a b : ℕ). a % 128 * 2 + b / 128) here (c .before .byte-at .ensures ∙ next ∙ ap (λ (n : ℕ). getD x n 0) (add-one (l .i))) ∙ sym (getD-shiftedBytes x (l .i))),
     )
 
 same-length : tie.Need-same-length Inv-loop μ-loop

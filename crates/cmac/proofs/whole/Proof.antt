@@ -1,49 +1,32 @@
+-- `cmac::whole`: its number first, and if that is 0 a start, one piece and the tag of the state.
+use mathlib.Core.Path.{_≡_, sym, _∙_}
+use mathlib.Core.List.{List, [], _∷_, append-nil}
+use Prim.Native.Nat.{ℕ}
 use borrow.Author.Needs.{needs}
+use denote.Ref.{now}
+use Rattle.answers.proofs.Outcome.{refuses}
+use Rattle.gift128.proofs.Answers.{key-passed}
+use Rattle.cmac.proofs.Pieces.{in-one-piece}
 use Rattle.cmac.proofs.whole.Statement.{statement}
 use Rattle.cmac.proofs.whole.Tie as tie
-use Rattle.cmac.proofs.whole.Reads as reads
-use Rattle.cmac.proofs.whole.Lts as lts
-use Rattle.cmac.proofs.orders.key_code.Reads as key-code-reads
-use Rattle.cmac.proofs.piece.Reads as piece-reads
-use Rattle.cmac.proofs.start.Reads as start-reads
-use Rattle.cmac.proofs.tag.Reads as tag-reads
 
--- src/lib.rt:268:9
-key-code-requires : tie.Need-key-code-requires
-key-code-requires c κs = search needs
-
--- src/lib.rt:270:9
 returns : tie.Need-returns
-returns c = ?
+returns c = refuses (c .before .key-code .ensures) (c .if1 .taken)
 
--- src/lib.rt:272:9
-start-requires : tie.Need-start-requires
-start-requires c κs = search needs
-
--- src/lib.rt:274:9
-piece-requires : tie.Need-piece-requires
-piece-requires c κs = search needs
-
--- src/lib.rt:276:5
-tag-requires : tie.Need-tag-requires
-tag-requires c κs = search needs
-
--- src/lib.rt:265:1
-same-length : tie.Need-same-length
-same-length c = search needs
-
--- src/lib.rt:265:1
 returns-2 : tie.Need-returns-2
-returns-2 c = ?
+returns-2 c =
+    let a = c .before .before .before .before .before .before .before .before .before .before .before .before .before .args in
+    in-one-piece (now (a .key)) (now (a .message)) (now (a .out)) _ _ (key-passed _ _ (sym (c .before .before .before .before .before .before .before .before .before .key-code .ensures) ∙ c .before .before .before .before .before .before .before .before .if1 .left) .0)
+    (c .before .before .before .before .before .before .before .start .ensures) (c .before .before .before .before .before .piece .ensures) (c .before .before .tag .ensures)
 
 pub whole-spec : {M : Type 1} → statement M
 whole-spec =
     tie.close
     (tie.spec
-    key-code-requires
+    (λ c κs. search needs)
     returns
-    start-requires
-    piece-requires
-    tag-requires
-    same-length
+    (λ c κs. search needs)
+    (λ c κs. search needs)
+    (λ c κs. search needs)
+    (λ c. search needs)
     returns-2)
