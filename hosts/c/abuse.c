@@ -1,4 +1,4 @@
-/* A random walk of 100,000 calls over everything that the library exports, with good and bad arguments, each call held to model.h: the number
+/* A random walk of 120,000 calls over everything that the library exports, with good and bad arguments, each call held to model.h: the number
  * given back, every byte, word and record lent, and every byte round them. The same walk on each run. Exit status 1 if anything differs. */
 #include <stdio.h>
 #include <string.h>
@@ -6,12 +6,13 @@
 #include "model.h"
 
 #define CALLS 100000
+#define MAC_CALLS 20000 /* of CMAC, after those */
 #define RECORDS (LANES + 2) /* of which the first are a bench */
 
 /* The header's names are document 01's numbers. */
 _Static_assert(GIFT_DONE == 0 && GIFT_BAD_KEY_LENGTH == 1 && GIFT_BAD_BLOCK_LENGTH == 2 && GIFT_BAD_OUTPUT_LENGTH == 3, "0 to 3");
 _Static_assert(GIFT_BAD_WORD_COUNT == 4 && GIFT_BAD_LANE == 5 && GIFT_LANE_NOT_IDLE == 6 && GIFT_LANE_NOT_FINISHED == 7, "4 to 7");
-_Static_assert(GIFT_TOO_MANY_TURNS == 8 && GIFT_BAD_DIRECTION == 9 && GIFT_BAD_BENCH == 10, "8 to 10");
+_Static_assert(GIFT_TOO_MANY_TURNS == 8 && GIFT_BAD_DIRECTION == 9 && GIFT_BAD_BENCH == 10 && GIFT_BAD_STATE == 10, "8 to 10");
 _Static_assert(GIFT_IDLE == 0 && GIFT_RUNNING == 1 && GIFT_FINISHED == 2 && GIFT_ENCRYPT == 0 && GIFT_DECRYPT == 1, "phases and directions");
 _Static_assert(GIFT_BLOCK_SIZE == 16 && GIFT_KEY_SIZE == 16 && GIFT_WORDS == 80 && GIFT_LANES == LANES && GIFT_FRESH_LAST == LANES - 1, "sizes");
 _Static_assert(GIFT_MOST_TURNS == 1024 && GIFT_TURNS_OF_A_LANE == 8, "turns");
@@ -118,12 +119,13 @@ static uint8_t *expected(room *r)
 
 enum {
     ENCRYPT_BY_KEY, DECRYPT_BY_KEY, ENCRYPT_BY_WORDS, DECRYPT_BY_WORDS, EXPAND, ENCRYPT_BLOCKS,
-    DECRYPT_BLOCKS, OPEN_LANE, TURN, TAKE, CLOSE, KINDS
+    DECRYPT_BLOCKS, OPEN_LANE, TURN, TAKE, CLOSE, MAC, MAC_CHECK, MAC_START, MAC_PIECE, MAC_TAG, KINDS
 };
 
 static const char *const names[KINDS] = {
     "gift_encrypt_by_key", "gift_decrypt_by_key", "gift_encrypt_by_words", "gift_decrypt_by_words", "gift_expand", "gift_encrypt_blocks",
     "gift_decrypt_blocks", "gift_open_lane", "gift_turn", "gift_take", "gift_close",
+    "gift_mac", "gift_mac_check", "gift_mac_start", "gift_mac_piece", "gift_mac_tag",
 };
 
 static unsigned calls, differences, given[KINDS][11];
@@ -382,6 +384,140 @@ static void on_the_bench(void)
         *damaged = right;
 }
 
+/* ---- CMAC ---- */
+
+static gift_mac_state mac;               /* as the model has it */
+static uint8_t fed[4096], mac_key[16];   /* all that was fed to it since its start, and by which key */
+static size_t fed_len;
+static int by_a_key;                     /* and not a state of the host's making */
+static unsigned yeses, whole_tags;
+
+static void whole(void)
+{
+    uint32_t number, must;
+    lend(&keys, "key", length(16), 1);
+    lend(&blocks, "message", length(below(100)), 1);
+    lend(&outputs, "tag", length(16), 1);
+    must = key_number(keys.length, outputs.length);
+    if (must == 0)
+        model_mac(expected(&keys), expected(&blocks), blocks.length, expected(&outputs));
+    number = gift_mac(part(&keys), keys.length, part(&blocks), blocks.length, part(&outputs), outputs.length);
+    hold(MAC, number, must);
+}
+
+/* The message's tag in half of the calls, and one that differs in one bit, or all of it, in the others. */
+static void check(void)
+{
+    uint32_t must, yes;
+    uint8_t tag[16];
+    gift_mac_checked told;
+    lend(&keys, "key", length(16), 1);
+    lend(&blocks, "message", length(below(100)), 1);
+    lend(&outputs, "tag", length(16), 1);
+    must = key_number(keys.length, outputs.length);
+    if (must == 0) {
+        model_mac(expected(&keys), expected(&blocks), blocks.length, tag);
+        if (below(4) != 0) {
+            memcpy(expected(&outputs), tag, 16);
+            if (below(2) == 0)
+                expected(&outputs)[below(16)] ^= (uint8_t)(1u << below(8));
+            memcpy(part(&outputs), expected(&outputs), 16);
+        }
+    }
+    yes = must == 0 && memcmp(expected(&outputs), tag, 16) == 0;
+    told = gift_mac_check(part(&keys), keys.length, part(&blocks), blocks.length, part(&outputs), outputs.length);
+    hold(MAC_CHECK, told.code, must);
+    yeses += yes;
+    if (told.yes != yes && differs(MAC_CHECK))
+        printf("it says %u and must say %u\n", told.yes, yes);
+}
+
+static void hold_state(unsigned kind, gift_mac_state told)
+{
+    if (memcmp(&told, &mac, sizeof mac) != 0 && differs(kind))
+        printf("the state given back is not what it must be\n");
+}
+
+static void start(void)
+{
+    gift_mac_told told;
+    uint32_t must;
+    lend(&keys, "key", length(16), 1);
+    must = keys.length != 16;
+    model_start(&mac, must == 0 ? expected(&keys) : NULL);
+    fed_len = 0;
+    by_a_key = must == 0;
+    if (by_a_key)
+        memcpy(mac_key, expected(&keys), 16);
+    told = gift_mac_start(part(&keys), keys.length);
+    hold(MAC_START, told.code, must);
+    hold_state(MAC_START, told.state);
+}
+
+static void piece(void)
+{
+    gift_mac_state given = mac;
+    gift_mac_told told;
+    uint32_t must;
+    lend(&blocks, "piece", below(4) ? below(40) : 16 * below(5), 1);
+    must = state_number(&mac);
+    if (must == 0) {
+        model_piece(&mac, expected(&blocks), blocks.length);
+        if (fed_len + blocks.length > sizeof fed)
+            by_a_key = 0;
+        if (by_a_key) {
+            memcpy(fed + fed_len, expected(&blocks), blocks.length);
+            fed_len += blocks.length;
+        }
+    }
+    told = gift_mac_piece(given, part(&blocks), blocks.length);
+    hold(MAC_PIECE, told.code, must);
+    hold_state(MAC_PIECE, told.state);
+}
+
+static void tag_of_state(void)
+{
+    uint32_t number, must;
+    uint8_t tag[16];
+    lend(&outputs, "tag", length(16), 1);
+    must = tag_number(&mac, outputs.length);
+    if (must == 0)
+        model_tag(&mac, expected(&outputs));
+    number = gift_mac_tag(mac, part(&outputs), outputs.length);
+    hold(MAC_TAG, number, must);
+    if (must == 0 && by_a_key) {
+        whole_tags++;
+        model_mac(mac_key, fed, fed_len, tag);
+        if (memcmp(part(&outputs), tag, 16) != 0 && differs(MAC_TAG))
+            printf("it is not the tag of the whole message\n");
+    }
+}
+
+/* Now and then the state is the host's: any words, bytes and count, and for one call more than 16 held. */
+static void on_a_state(void)
+{
+    uint32_t right = mac.count;
+    int damaged = bad();
+    if (below(40) == 0) {
+        for (unsigned i = 0; i < 80; i++)
+            mac.words[i] = (uint32_t)next();
+        for (unsigned i = 0; i < 16; i++) {
+            mac.chain[i] = (uint8_t)next();
+            mac.held[i] = (uint8_t)next();
+        }
+        right = mac.count = below(17);
+        by_a_key = 0;
+    }
+    if (damaged)
+        mac.count = number_above(16);
+    if (below(2))
+        piece();
+    else
+        tag_of_state();
+    if (damaged)
+        mac.count = right;
+}
+
 int main(void)
 {
     if (gift_host_edition() != GIFT_HOST_EDITION) {
@@ -402,6 +538,16 @@ int main(void)
         }
     }
 
+    while (calls < CALLS + MAC_CALLS) {
+        mischief = below(8) < 5 ? 0 : below(4) ? 2 : 5;
+        switch (below(12)) {
+        case 0: start(); break;
+        case 1: case 2: whole(); break;
+        case 3: case 4: check(); break;
+        default: on_a_state(); break;
+        }
+    }
+
     printf("%-22s", "number given back:");
     for (unsigned number = 0; number <= 10; number++)
         printf("%7u", number);
@@ -414,6 +560,7 @@ int main(void)
     printf("%u turns were made; %u opened lanes yielded what GIFT-128 gives\n", turns_made, yielded);
     printf("%u sound records were the host's; %u calls met an unsound one, %u a slice of another length, %u a last served number that is no lane's\n", made_by_host,
            unsound, slices, lasts);
+    printf("%u checks said yes; %u tags of states were those of the whole message\n", yeses, whole_tags);
     printf("%u calls, %u differences\n", calls, differences);
     return differences > 0;
 }

@@ -1,15 +1,15 @@
 -- The last block, as the code makes it: full or padded, and with its key.
-use mathlib.Core.Path.{_≡_, refl, sym, ap, ap₂, _∙_}
-use mathlib.Core.Bool.{Bool, cond}
+use mathlib.Core.Path.{_≡_, refl, sym, ap, _∙_}
+use mathlib.Core.Bool.{Bool, true, false, cond}
 use mathlib.Core.List.{List, [], _∷_, _++_, append-assoc, append-nil}
-use Prim.Native.Nat.{ℕ, _+_, _-_, _≤_, _<_}
+use Prim.Native.Nat.{ℕ, _+_, _-_, _≤_}
 use native.Mathlib.Nat.{le-of-eq}
 use native.Mathlib.Omega.{arith}
 use lib.Dec.{eqb}
-use lib.ListN.{length, take, replicate, length-append, length-take}
+use lib.ListN.{length, take, replicate, length-append}
 use lib.Seq.{length-take-le, take-all}
-use borrow.Author.Tests.{eq-eqb, ne-eqb}
-use Rattle.cmac.specs.Standard.{_⊕_, zeroBlock, K1, K2, subkey, padded, lastBlock}
+use borrow.Author.Tests.{eqb-true}
+use Rattle.cmac.specs.Standard.{_⊕_, zeroBlock, K1, K2, padded, lastBlock}
 use Rattle.cmac.specs.Calls.{kept}
 
 pub length-zeroBlock : length zeroBlock ≡ 16
@@ -30,23 +30,16 @@ padded-is m =
     less : (n : ℕ) → 16 - (n + 1) ≡ 15 - n
     less n = omega arith
 
-module _ (ciph : List ℕ → List ℕ) (held : List ℕ) (count : ℕ) (len : length held ≡ 16) where
-  size : count ≤ 16 → length (take count held) ≡ count
-  size h = length-take-le count held (omega arith)
+-- the key and the bytes, each by whether the block is full
+pub last-is : (ciph : List ℕ → List ℕ) (held : List ℕ) (count : ℕ) → length held ≡ 16 → count ≤ 16
+    → cond (eqb count 16) (K1 ciph) (K2 ciph) ⊕ cond (eqb count 16) held (padded (take count held)) ≡ lastBlock ciph (take count held)
+unfolding lastBlock
+last-is ciph held count len h = go (eqb count 16) refl ∙ ap (λ (n : ℕ). cond (eqb n 16) (K1 ciph ⊕ take count held) (K2 ciph ⊕ padded (take count held))) (sym size)
+  where
+    size : length (take count held) ≡ count
+    size = length-take-le count held (omega arith)
 
-  pub last-full : (k e : List ℕ) → count ≡ 16 → k ≡ K1 ciph → e ≡ k ⊕ held → e ≡ lastBlock ciph (take count held)
-  unfolding lastBlock
-  last-full k e h key made =
-      made
-      ∙ ap₂ _⊕_ key (sym (take-all count held (le-of-eq (len ∙ sym h))))
-      ∙ ap (λ (t : Bool). cond t (K1 ciph ⊕ take count held) (K2 ciph ⊕ padded (take count held))) (sym (eq-eqb _ 16 (size (le-of-eq h) ∙ h)))
-
-  pub last-part : (k p e : List ℕ) → count < 16 → k ≡ subkey (K1 ciph) → p ≡ padded (take count held) → e ≡ k ⊕ p → e ≡ lastBlock ciph (take count held)
-  unfolding lastBlock K2
-  last-part k p e h key pads made =
-      made
-      ∙ ap₂ _⊕_ key pads
-      ∙ ap (λ (t : Bool). cond t (K1 ciph ⊕ take count held) (K2 ciph ⊕ padded (take count held))) (sym (ne-eqb _ 16 (λ f. short f)))
-    where
-      short : length (take count held) ≡ 16 → ⊥
-      short f = let s : length (take count held) ≡ count = size (omega arith) in omega arith
+    go : (t : Bool) → eqb count 16 ≡ t
+        → cond (eqb count 16) (K1 ciph) (K2 ciph) ⊕ cond (eqb count 16) held (padded (take count held)) ≡ cond (eqb count 16) (K1 ciph ⊕ take count held) (K2 ciph ⊕ padded (take count held))
+    go true e = rw e (ap (λ (l : List ℕ). K1 ciph ⊕ l) (sym (take-all count held (le-of-eq (len ∙ sym (eqb-true count 16 e))))))
+    go false e = rw e

@@ -66,7 +66,7 @@ shifted-is bs len h =
 
 length-shifted : (x : List ℕ) → length (shifted x) ≡ 16
 unfolding shifted
-length-shifted x = length-toBytes 16 (2 * fromBytes x % 2 ^ 128)
+length-shifted x = length-toBytes 16 _
 
 length-R128 : 16 ≡ length R128
 unfolding R128

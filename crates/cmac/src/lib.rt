@@ -8,14 +8,19 @@ use orders::key_code;
 use orders::piece_code;
 use orders::tag_code;
 ghost use mathlib.Core.Path.{_≡_};
+ghost use mathlib.Core.Bool.{cond};
 ghost use mathlib.Core.List.{_++_};
-ghost use Prim.Native.Nat.{_+_, _*_, _<_, _≤_};
+ghost use Prim.Native.Nat.{_+_, _*_, _≤_};
+ghost use lib.Dec.{eqb};
 ghost use lib.ListN.{length, take, getD};
 ghost use denote.Ref.{now};
 ghost use Rattle.gift128.specs.Calls.{encryptedBy};
-ghost use Rattle.cmac.specs.Standard.{_⊕_, zeroBlock, shifted, subkey, before, blocks, padded, lastBlock, chained};
+ghost use Rattle.cmac.specs.Standard.{_⊕_, zeroBlock, shifted, subkey, K1, K2, before, blocks, padded, lastBlock, chained};
 ghost use Rattle.cmac.specs.Calls.{kept, same, TagsWhole, Checks, Starts, Feeds, TagsState};
 ghost use Rattle.cmac.specs.Inner.{Fills};
+
+// Bytes of a tag.
+const TAG_SIZE: usize = 16;
 
 // What is kept between pieces: the cipher's round words, the chaining block, and the bytes held back, of which `count`, 0 to 16, count.
 // A full block is held until more comes, since the last one is treated apart. No byte of the record is padding.
@@ -168,17 +173,34 @@ fn feed(words: &[u32], chain: &mut [u8], held: &mut [u8], count: usize, bytes: &
 
 // ---- the last block
 
-// An incomplete block padded.
+// The key of the last block, in the place of a block of zeros: K1 if it is full, else K2. L, K1 and K2 are made here, and kept nowhere.
+fn last_key(words: &[u32], key: &mut [u8], full: bool)
+    requires { ⌜ length (now words) ≡ 80 ⌝ }
+    requires { ⌜ now key ≡ zeroBlock ⌝ }
+    ensures { λ r. ⌜ now (key .exit) ≡ cond full (K1 (encryptedBy (now (words .entry)))) (K2 (encryptedBy (now (words .entry)))) ⌝ }
+{
+    encrypt_by_words(words, key);
+    double(key);
+    if full {
+        return;
+    }
+    double(key);
+}
+
+// A block that is not full padded.
 fn pad(held: &mut [u8], count: usize)
     requires { ⌜ length (now held) ≡ 16 ⌝ }
-    requires { ⌜ count < 16 ⌝ }
-    ensures { λ r. ⌜ now (held .exit) ≡ padded (take count (now (held .entry))) ⌝ }
+    requires { ⌜ count ≤ 16 ⌝ }
+    ensures { λ r. ⌜ now (held .exit) ≡ cond (eqb count 16) (now (held .entry)) (padded (take count (now (held .entry)))) ⌝ }
 {
+    if count == 16 {
+        return;
+    }
     let one = [128u8; 1];
     hold(held, count, &one);
 }
 
-// The last block with its key, in the place of a block of zeros: L, K1 and K2 are made here, and kept nowhere.
+// The last block with its key, in the place of a block of zeros.
 fn last(words: &[u32], block: &mut [u8], held: &mut [u8], count: usize)
     requires { ⌜ length (now words) ≡ 80 ⌝ }
     requires { ⌜ now block ≡ zeroBlock ⌝ }
@@ -186,13 +208,7 @@ fn last(words: &[u32], block: &mut [u8], held: &mut [u8], count: usize)
     requires { ⌜ count ≤ 16 ⌝ }
     ensures { λ r. ⌜ now (block .exit) ≡ lastBlock (encryptedBy (now (words .entry))) (take count (now (held .entry))) ⌝ }
 {
-    encrypt_by_words(words, block);
-    double(block);
-    if count == 16 {
-        mix(block, held);
-        return;
-    }
-    double(block);
+    last_key(words, block, count == 16);
     pad(held, count);
     mix(block, held);
 }
@@ -293,7 +309,7 @@ fn same_tags(a: &[u8], b: &[u8]) -> bool
 {
     let mut bits: u8 = 0;
     let mut i: usize = 0;
-    while i < 16 {
+    while i < TAG_SIZE {
         bits = bits | (a[i] ^ b[i]);
         i += 1;
     }

@@ -41,8 +41,9 @@ pub(crate) fn piece_code(count: u32) -> u32
 pub(crate) fn tag_code(count: u32, tag: usize) -> u32
     ensures { λ r. ⌜ r ≡ tagCode count tag ⌝ }
 {
-    if 16 < count {
-        return BAD_STATE;
+    let code = piece_code(count);
+    if code != DONE {
+        return code;
     }
     length_code(tag)
 }

@@ -24,7 +24,7 @@ pub enum Refusal {
     TooManyTurns = 8,
     /// 9: a direction that is neither 0 nor 1.
     BadDirection = 9,
-    /// 10: not four records, last served above 3, or a record that is not sound.
+    /// 10: not four records, last served above 3, or a record that is not sound; or a [`crate::MacState`] that claims more than 16 held bytes.
     BadBench = 10,
 }
 

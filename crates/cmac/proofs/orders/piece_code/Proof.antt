@@ -1,5 +1,4 @@
 -- `cmac::orders::piece_code` tries 10.
-use native.Mathlib.Omega.{arith}
 use borrow.Author.Tests.{le-leb, lt-leb}
 use Rattle.cmac.specs.Calls.{pieceCode}
 use Rattle.cmac.proofs.orders.piece_code.Statement.{statement}

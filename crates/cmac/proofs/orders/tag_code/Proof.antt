@@ -1,18 +1,15 @@
--- `cmac::orders::tag_code` tries 10, 2.
-use native.Mathlib.Omega.{arith}
+-- `cmac::orders::tag_code` tries 10, as a piece does, and then 2.
+use mathlib.Core.Path.{sym, _∙_}
 use borrow.Author.Needs.{needs}
-use borrow.Author.Tests.{le-leb, lt-leb}
-use Rattle.cmac.specs.Calls.{tagCode}
+use Rattle.cmac.proofs.Pieces.{tag-refused, tag-later}
 use Rattle.cmac.proofs.orders.tag_code.Statement.{statement}
 use Rattle.cmac.proofs.orders.tag_code.Tie as tie
 
 returns : tie.Need-returns
-unfolding tagCode
-returns c = rw (lt-leb _ 16 (c .if1 .taken))
+returns c = tag-refused _ _ _ (c .before .piece-code .ensures) (c .if1 .taken)
 
 returns-2 : tie.Need-returns-2
-unfolding tagCode
-returns-2 c = rw (le-leb _ 16 (c .before .if1 .left)) (c .length-code .ensures)
+returns-2 c = tag-later _ _ _ (sym (c .before .before .piece-code .ensures) ∙ c .before .if1 .left) (c .length-code .ensures)
 
 pub tag-code-spec : {M : Type 1} → statement M
-tag-code-spec = tie.close (tie.spec returns (λ c κs. search needs) returns-2)
+tag-code-spec = tie.close (tie.spec (λ c κs. search needs) returns (λ c κs. search needs) returns-2)

@@ -1,0 +1,90 @@
+"""GIFT-128 as its designers define it (IACR ePrint 2017/622), bit by bit, for the models beside this file. It shares nothing with the code.
+
+A block is its number, and no word is ever packed but by `packed`, which document 01 defines.
+"""
+
+TABLE = [int(x, 16) for x in "1 a 4 c 6 f 3 9 2 d b 7 5 0 8 e".split()]
+
+
+def bit(x, i):
+    return x >> i & 1
+
+
+def moved(i):
+    return 4 * (i // 16) + 32 * ((3 * ((i % 16) // 4) + i % 4) % 4) + i % 4
+
+
+def right(word, n):
+    return (word >> n | word << 16 - n) % 2 ** 16
+
+
+def rounds_of(key):
+    """What each round xors to the block: the bits of U and V, b127 and the constant."""
+    k = [int.from_bytes(key[14 - 2 * i:16 - 2 * i], "big") for i in range(8)]
+    c = 0
+    masks = []
+    for _ in range(40):
+        c = c << 1 & 0x3F | bit(c, 5) ^ bit(c, 4) ^ 1
+        u, v = k[5] << 16 | k[4], k[1] << 16 | k[0]
+        mask = 1 << 127
+        for i in range(32):
+            mask ^= bit(u, i) << 4 * i + 2 ^ bit(v, i) << 4 * i + 1
+        for i in range(6):
+            mask ^= bit(c, i) << 4 * i + 3
+        masks.append(mask)
+        k = k[2:] + [right(k[0], 12), right(k[1], 2)]
+    return masks
+
+
+def round_done(x, mask):
+    y = sum(TABLE[x >> 4 * n & 15] << 4 * n for n in range(32))
+    return sum(bit(y, i) << moved(i) for i in range(128)) ^ mask
+
+
+def round_undone(x, mask):
+    x ^= mask
+    y = sum(bit(x, moved(i)) << i for i in range(128))
+    return sum(TABLE.index(y >> 4 * n & 15) << 4 * n for n in range(32))
+
+
+def packed(x):
+    return [sum(bit(x, 4 * i + j) << i for i in range(32)) for j in range(4)]
+
+
+def number(block):
+    return int.from_bytes(block, "big")
+
+
+def block(x):
+    return x.to_bytes(16, "big")
+
+
+def encrypted(key, plain, rounds=40):
+    x = number(plain)
+    for mask in rounds_of(key)[:rounds]:
+        x = round_done(x, mask)
+    return block(x)
+
+
+def decrypted(key, secret):
+    x = number(secret)
+    for mask in reversed(rounds_of(key)):
+        x = round_undone(x, mask)
+    return block(x)
+
+
+def checked():
+    """What is known of the cipher by other means: document 01's small facts, and the designers' vectors."""
+    assert [TABLE[x] for x in (0, 8, 13, 15)] == [1, 2, 0, 14]
+    assert [moved(i) for i in (0, 1, 2, 3, 4, 5, 16, 127)] == [0, 33, 66, 99, 96, 1, 4, 31]
+    assert packed(1) == [1, 0, 0, 0] and packed(2) == [0, 1, 0, 0] and packed(1 << 127) == [0, 0, 0, 1 << 31]
+    assert encrypted(bytes(16), bytes(16), 1).hex() == "91" + 14 * "11" + "19"
+    vectors = """00000000000000000000000000000000 00000000000000000000000000000000 cd0bd738388ad3f668b15a36ceb6ff92
+        fedcba9876543210fedcba9876543210 fedcba9876543210fedcba9876543210 8422241a6dbf5a9346af468409ee0152
+        d0f5c59a7700d3e799028fa9f90ad837 e39c141fa57dba43f08a85b6a91f86c1 13ede67cbdcc3dbf400a62d6977265ea"""
+    for line in vectors.splitlines():
+        key, plain, secret = (bytes.fromhex(x) for x in line.split())
+        assert encrypted(key, plain) == secret and decrypted(key, secret) == plain
+
+
+checked()
