@@ -2,8 +2,8 @@
  *
  * Every function is proved to answer as said here for all lengths, numbers, bytes and records. There is nothing to set up
  * or tear down, and nothing is kept between calls: all memory is the host's, and is lent for the length of one call. Calls
- * on different memory may run at the same time. The library takes no heap and some one KiB of stack, and calls nothing
- * but memcpy and memset.
+ * on different memory may run at the same time. The library takes no heap and some one KiB of stack (18 KiB where the plain
+ * engine is called), and calls nothing but memcpy and memset.
  *
  * A call answers 0 (GIFT_DONE) or the number of a refusal. Refusals are tried in the order given with each function, and
  * the first that applies is the one given. After a refusal everything lent is as it was before the call.
@@ -32,7 +32,7 @@
 extern "C" {
 #endif
 
-#define GIFT_HOST_EDITION 1 /* of this header */
+#define GIFT_HOST_EDITION 2 /* of this header */
 
 /* The edition of the library that is linked. */
 uint32_t gift_host_edition(void);
@@ -44,7 +44,7 @@ uint32_t gift_host_edition(void);
 /* The numbers given back. */
 #define GIFT_DONE 0
 #define GIFT_BAD_KEY_LENGTH 1    /* the key is not of 16 bytes */
-#define GIFT_BAD_BLOCK_LENGTH 2  /* a block or take buffer is not of 16 bytes; many blocks: input not a multiple of 16 */
+#define GIFT_BAD_BLOCK_LENGTH 2  /* a block, take buffer or tag is not of 16 bytes; many blocks: input not a multiple of 16 */
 #define GIFT_BAD_OUTPUT_LENGTH 3 /* the output is not as long as the input */
 #define GIFT_BAD_WORD_COUNT 4    /* the round words are not 80 */
 #define GIFT_BAD_LANE 5          /* a lane number above 3 */
@@ -60,6 +60,13 @@ uint32_t gift_host_edition(void);
 /* By a key. Refusals: 1, 2. */
 uint32_t gift_encrypt_by_key(const uint8_t *key, size_t key_len, uint8_t *block, size_t block_len);
 uint32_t gift_decrypt_by_key(const uint8_t *key, size_t key_len, uint8_t *block, size_t block_len);
+
+/* The same by the plain engine, which does document 01's steps one by one on 32 nibbles: for an auditor to read, and for a host
+ * that holds one engine to the other. The two are proved to give the same number and bytes, whatever is lent. It takes some 28
+ * times as long as gift_encrypt_by_key, and 35 times as long as gift_decrypt_by_key (one block, x86-64, the kit's clang 22 at
+ * -O3, by speed/bench). Refusals: 1, 2. */
+uint32_t gift_plain_encrypt_by_key(const uint8_t *key, size_t key_len, uint8_t *block, size_t block_len);
+uint32_t gift_plain_decrypt_by_key(const uint8_t *key, size_t key_len, uint8_t *block, size_t block_len);
 
 /* By 80 round words: those of gift_expand, which saves expanding the key for every block, or any others. Refusals: 4, 2. */
 uint32_t gift_encrypt_by_words(const uint32_t *words, size_t words_len, uint8_t *block, size_t block_len);
@@ -82,8 +89,11 @@ uint32_t gift_decrypt_blocks(const uint8_t *key, size_t key_len, const uint8_t *
  * zero and the last served number GIFT_FRESH_LAST. The host keeps both. It passes the last served number by value;
  * only gift_turn moves it, and gives the new one back.
  *
- * A record is sound if its direction is 0 or 1 and it is idle with count 0, running with count 0 to 7, or finished with
- * count 8. Every call looks at all four and refuses with 10 if one is not sound; none repairs it.
+ * A record is sound if it is all zero, which is idle, or if its direction is 0 or 1 and it is running with count 0 to 7 or
+ * finished with count 8. Every call looks at all of every record and refuses with 10 if one is not sound; none repairs it.
+ * A take and a close leave the record all zero: no round word or block stays in it. What a call itself had on the stack or in
+ * registers is not wiped: the round words of a lane that was opened or turned may lie below the caller's frame until
+ * something else is written there.
  */
 
 #define GIFT_LANES 4           /* records of a bench */
@@ -129,11 +139,10 @@ uint32_t gift_open_lane(gift_lane *lanes, size_t lanes_len, uint32_t last, uint3
  * closed is finished no later than the 32nd turn made after its opening, whatever the other lanes do. Refusals: 10, 8. */
 gift_turns gift_turn(gift_lane *lanes, size_t lanes_len, uint32_t last, uint32_t asked);
 
-/* Writes the 16 bytes of a finished lane, which is idle afterwards: direction, count and state 0. Its round words stay in
- * the record until it is opened again. Refusals: 10, 5, 7, 2. */
+/* Writes the 16 bytes of a finished lane, whose record is all zero afterwards. Refusals: 10, 5, 7, 2. */
 uint32_t gift_take(gift_lane *lanes, size_t lanes_len, uint32_t last, uint32_t lane, uint8_t *out, size_t out_len);
 
-/* Makes a lane idle as after a take, whatever it was. Refusals: 10, 5. */
+/* Makes a lane idle, its record all zero, whatever it was; closing an idle lane changes nothing. Refusals: 10, 5. */
 uint32_t gift_close(gift_lane *lanes, size_t lanes_len, uint32_t last, uint32_t lane);
 
 /* ---- CMAC (NIST SP 800-38B) over GIFT-128: a tag of 16 bytes ---- */

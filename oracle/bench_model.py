@@ -1,104 +1,55 @@
 #!/usr/bin/env python3
-"""The bench of document 01 and GIFT-128 as its designers define it, written from those pages alone; it makes the calls that bench_replay replays.
+"""The bench of document 01, written from that page alone over the cipher of cipher_model.py; it makes the calls of the bench that replay replays.
 
     oracle/bench_model.py
 
-writes crates/bench_replay/data/calls (the calls, each with what must come of it) and crates/bench_replay/stdout (what the program must print).
-The cipher goes bit by bit over a block's number. A lane keeps that number, the published state after 5t rounds done or undone, and never
-a fixsliced word. The list of calls depends on a fixed seed alone.
+writes the last part of crates/replay/stdin, the calls with what must come of each, and crates/replay/stdout anew. A lane keeps the published state after 5t
+rounds done or undone, and never a fixsliced word. The list of calls depends on fixed seeds alone, and on how many lanes a bench has.
 
-The file: a pool of 64 entries of 17 bytes, then records of 64 bytes, numbers with the most significant byte first.
+    oracle/bench_model.py --wrong
 
-     0      kind: 0 a fresh bench, 1 open, 2 turn, 3 take, 4 close, 5 records put into the bench by the host
-     1      the number given back
-     2, 3   pool entry and length of the key, or of the take buffer as it is lent; put: the entry that is the state of the lane below
-     4, 5   pool entry and length of the block
-     6..10  the lane, or the turns asked
-    10..14  open: the direction; turn: the turns told
-    14..18  last served afterwards
-    18..30  afterwards of lanes 0 to 3: their phases, directions, counts
-    30..46  afterwards, the packed states of the four lanes, xored: words 0 to 3
-    46..63  take: the 17 bytes in which the buffer lies, afterwards
+prints cases that are all wrong, each by one digit: in each field of each record after each call, and in each field that the call gives.
+README.md beside this file says how a case is written.
 """
 import collections
 import os
 import random
+import subprocess
+import sys
 
+from cipher_model import block, number, packed, round_done, round_undone, rounds_of
+
+LANES = 4
 SEED = 128
-CALLS = 3090
-POOL, ENTRY = 64, 17
+CALLS = 3019
 BIG = 2 ** 32 - 1
-FRESH, OPEN, TURN, TAKE, CLOSE, PUT = range(6)
-KINDS = ["fresh", "open", "turn", "take", "close", "put by the host"]
-NUMBERS = [0, 1, 2, 5, 6, 7, 8, 9, 10]
-ORDERS = {OPEN: [0, 10, 5, 6, 9, 1, 2], TURN: [0, 10, 8], TAKE: [0, 10, 5, 7, 2], CLOSE: [0, 10, 5]}
-
-# ---- the published cipher
-
-TABLE = [int(x, 16) for x in "1 a 4 c 6 f 3 9 2 d b 7 5 0 8 e".split()]
-
-
-def bit(x, i):
-    return x >> i & 1
-
-
-def moved(i):
-    return 4 * (i // 16) + 32 * ((3 * ((i % 16) // 4) + i % 4) % 4) + i % 4
-
-
-def right(word, n):
-    return (word >> n | word << 16 - n) % 2 ** 16
-
-
-def rounds_of(key):
-    """What each round xors to the block: the bits of U and V, b127 and the constant."""
-    k = [int.from_bytes(key[14 - 2 * i:16 - 2 * i], "big") for i in range(8)]
-    c = 0
-    masks = []
-    for _ in range(40):
-        c = c << 1 & 0x3F | bit(c, 5) ^ bit(c, 4) ^ 1
-        u, v = k[5] << 16 | k[4], k[1] << 16 | k[0]
-        mask = 1 << 127
-        for i in range(32):
-            mask ^= bit(u, i) << 4 * i + 2 ^ bit(v, i) << 4 * i + 1
-        for i in range(6):
-            mask ^= bit(c, i) << 4 * i + 3
-        masks.append(mask)
-        k = k[2:] + [right(k[0], 12), right(k[1], 2)]
-    return masks
-
-
-def round_done(x, mask):
-    y = sum(TABLE[x >> 4 * n & 15] << 4 * n for n in range(32))
-    return sum(bit(y, i) << moved(i) for i in range(128)) ^ mask
-
-
-def round_undone(x, mask):
-    x ^= mask
-    y = sum(bit(x, moved(i)) << i for i in range(128))
-    return sum(TABLE.index(y >> 4 * n & 15) << 4 * n for n in range(32))
-
-
-def packed(x):
-    return [sum(bit(x, 4 * i + j) << i for i in range(32)) for j in range(4)]
+IDLE, RUNNING, FINISHED = range(3)
+ORDERS = {"open_lane": [0, 10, 5, 6, 9, 1, 2], "turn": [0, 10, 8], "take": [0, 10, 5, 7, 2], "close": [0, 10, 5]}
+FIRST = "# Calls of the bench by value, made by 'oracle/bench_model.py' from document 01."
 
 
 # ---- the bench
 
-IDLE, RUNNING, FINISHED = range(3)
-
-
 class Lane:
+    """One record. Its words are those of a key, or, in a lane that is never served, any words at all."""
+
     def __init__(self):
-        self.key = bytes(16)
         self.idle()
 
     def idle(self):
+        """What a take or a close leaves: nothing (2026-01). The words of the key of zeros are zeros."""
+        self.key, self.words = bytes(16), None
         self.phase = self.direction = self.count = self.block = 0
 
     def sound(self):
-        counts = {IDLE: [0], RUNNING: range(8), FINISHED: [8]}
+        if self.phase == IDLE:
+            return self.idle_sound()
+        counts = {RUNNING: range(8), FINISHED: [8]}
         return self.count in counts.get(self.phase, []) and self.direction in (0, 1)
+
+    def idle_sound(self):
+        """What document 02 asks of a record whose phase is idle (2026-01): that everything in it is zero. This is the one place that says it."""
+        return not any([self.direction, self.count, self.block, *(self.key if self.words is None else self.words)])
 
     def serve(self):
         masks = rounds_of(self.key)
@@ -111,162 +62,189 @@ class Lane:
         if self.count == 8:
             self.phase = FINISHED
 
+    def fields(self):
+        """The record as a case tells it: what is zero is left out."""
+        if self.words is not None:
+            words = "words", "".join("%08x" % w for w in self.words)
+        else:
+            words = "key", self.key.hex()
+        state = "".join("%08x" % w for w in packed(self.block))
+        every = [("phase", "%x" % self.phase), ("direction", "%x" % self.direction), ("count", "%x" % self.count), words, ("state", state)]
+        return {name: digits for name, digits in every if digits.strip("0")}
+
 
 def first(lines):
     """The first number of an order whose line holds, and 0 if none does."""
-    for number, holds in lines:
+    for code, holds in lines:
         if holds():
-            return number
+            return code
     return 0
 
 
 class Bench:
     def __init__(self):
-        self.lanes = [Lane() for _ in range(4)]
-        self.last = 3
+        self.lanes = [Lane() for _ in range(LANES)]
+        self.last = LANES - 1
 
     def unsound(self):
-        return self.last > 3 or not all(l.sound() for l in self.lanes)
+        return self.last >= LANES or not all(l.sound() for l in self.lanes)
 
     def open(self, lane, direction, key, block):
-        number = first([
+        code = first([
             (10, self.unsound),
-            (5, lambda: lane > 3),
+            (5, lambda: lane >= LANES),
             (6, lambda: self.lanes[lane].phase != IDLE),
             (9, lambda: direction not in (0, 1)),
             (1, lambda: len(key) != 16),
             (2, lambda: len(block) != 16),
         ])
-        if number == 0:
+        if code == 0:
             l = self.lanes[lane]
-            l.key, l.block = key, int.from_bytes(block, "big")
+            l.key, l.words, l.block = key, None, number(block)
             l.direction, l.count, l.phase = direction, 0, RUNNING
-        return number
+        return code
 
     def turn(self, asked):
-        number = first([(10, self.unsound), (8, lambda: asked > 1024)])
+        code = first([(10, self.unsound), (8, lambda: asked > 1024)])
         made = 0
-        while number == 0 and made < asked:
-            order = [(self.last + d) % 4 for d in (1, 2, 3, 4)]
+        while code == 0 and made < asked:
+            order = [(self.last + d) % LANES for d in range(1, LANES + 1)]
             running = [n for n in order if self.lanes[n].phase == RUNNING]
             if not running:
                 break
             self.lanes[running[0]].serve()
             self.last = running[0]
             made += 1
-        return number, made
+        return code, made
 
     def take(self, lane, buffer):
-        number = first([
+        code = first([
             (10, self.unsound),
-            (5, lambda: lane > 3),
+            (5, lambda: lane >= LANES),
             (7, lambda: self.lanes[lane].phase != FINISHED),
             (2, lambda: len(buffer) != 16),
         ])
-        if number == 0:
-            buffer = self.lanes[lane].block.to_bytes(16, "big")
+        if code == 0:
+            buffer = block(self.lanes[lane].block)
             self.lanes[lane].idle()
-        return number, buffer
+        return code, buffer
 
     def close(self, lane):
-        number = first([(10, self.unsound), (5, lambda: lane > 3)])
-        if number == 0:
+        code = first([(10, self.unsound), (5, lambda: lane >= LANES)])
+        if code == 0:
             self.lanes[lane].idle()
-        return number
+        return code
 
 
 # ---- the calls, written down
 
+def line(call, fields):
+    return " ".join([call, *("%s=%s" % (name, digits if digits else "-") for name, digits in fields.items())])
+
+
+def record(n, fields):
+    return line("record", {"lane": "%x" % n, **fields})
+
+
 class Script:
     def __init__(self):
         self.random = random.Random(SEED)
-        self.pool = [bytes(ENTRY), bytes([255] * ENTRY), bytes(range(ENTRY))]
-        while len(self.pool) < POOL:
-            self.pool.append(bytes(self.random.randrange(256) for _ in range(ENTRY)))
-        self.records = []
+        self.pool = [bytes(17), bytes([255] * 17), bytes(range(17))]
+        while len(self.pool) < 64:
+            self.pool.append(bytes(self.random.randrange(256) for _ in range(17)))
+        self.lines = []
+        self.cases = {}
         self.kinds = collections.Counter()
-        self.numbers = collections.Counter()
         self.both = collections.Counter()
-        self.fresh()
+        self.bench = Bench()
+        self.told, self.last = [None] * LANES, None
 
-    def write(self, kind, number=0, a=(0, 0), b=(0, 0), named=0, other=0, buffer=bytes(ENTRY)):
-        lanes = self.bench.lanes
-        xored = 0
-        for l in lanes:
-            xored ^= l.block
-        record = bytes([kind, number, *a, *b])
-        for n in (named, other, self.bench.last):
-            record += n.to_bytes(4, "big")
-        record += bytes([l.phase for l in lanes] + [l.direction for l in lanes] + [l.count for l in lanes])
-        for word in packed(xored):
-            record += word.to_bytes(4, "big")
-        record += buffer + b"\0"
-        assert len(record) == 64
-        self.records.append(record)
-        self.kinds[kind] += 1
-        if kind in (OPEN, TURN, TAKE, CLOSE):
-            self.numbers[number] += 1
-            self.both[kind, number] += 1
-        return number
+    def heading(self, text):
+        self.lines.append("## Bench: " + text)
+
+    def write(self, call, fields, code=None, made=0, left=None):
+        """A call with what it gives, after the records that are not as they were told before."""
+        before, self.told = self.told, [l.fields() for l in self.bench.lanes]
+        gives = {} if code is None else {"number": "%x" % code, "made": "%x" % made}
+        gives["last"] = "%x" % self.bench.last
+        if left is not None:
+            gives["left"] = left.hex()
+        for n in range(LANES):
+            if before[n] != self.told[n]:
+                self.lines.append(record(n, self.told[n]))
+        self.lines.append(line(call, {**fields, **gives}))
+        if code is not None and None not in before:
+            plain = all("words" not in told for told in self.told)
+            self.cases.setdefault((call, code, plain), (before, self.last, self.told, fields, gives))
+        self.last = self.bench.last
+        self.kinds[call] += 1
+        self.both[call, code] += 1
+        return code
+
+    def calls(self):
+        return sum(self.kinds.values()) - self.kinds["put"]
 
     def some(self, length):
-        """A pool entry and a length; the entry is cut to it."""
-        n = self.random.randrange(POOL)
-        return (n, length), self.pool[n][:length]
+        return self.pool[self.random.randrange(len(self.pool))][:length]
 
     def fresh(self):
         self.bench = Bench()
-        self.write(FRESH)
+        self.write("fresh", {}, 0)
 
     def open(self, lane, direction=0, key=16, block=16):
-        (a, key), (b, block) = self.some(key), self.some(block)
-        return self.write(OPEN, self.bench.open(lane, direction, key, block), a, b, lane, direction)
+        key, block = self.some(key), self.some(block)
+        fields = {"lane": "%x" % lane, "direction": "%x" % direction, "key": key.hex(), "block": block.hex()}
+        return self.write("open_lane", fields, self.bench.open(lane, direction, key, block))
 
     def turn(self, asked):
-        number, made = self.bench.turn(asked)
-        self.write(TURN, number, named=asked, other=made)
-        return number, made
+        code, made = self.bench.turn(asked)
+        self.write("turn", {"asked": "%x" % asked}, code, made)
+        return code, made
 
     def take(self, lane, length=16):
-        a, buffer = self.some(length)
-        number, after = self.bench.take(lane, buffer)
-        return self.write(TAKE, number, a, named=lane, buffer=after + self.pool[a[0]][length:])
+        buffer = self.some(length)
+        code, after = self.bench.take(lane, buffer)
+        return self.write("take", {"lane": "%x" % lane, "lent": buffer.hex()}, code, left=after)
 
     def close(self, lane):
-        return self.write(CLOSE, self.bench.close(lane), named=lane)
+        return self.write("close", {"lane": "%x" % lane}, self.bench.close(lane))
 
-    def put(self, records, last, lane):
-        """The host's records, each with a phase, a direction and a count; every lane keeps its words, and all but one its state."""
-        for l, record in zip(self.bench.lanes, records):
-            l.phase, l.direction, l.count = record
+    def put(self, records, last, lane, wrong=None):
+        """The host's records, each with a phase, a direction and a count; every lane keeps its words, and all but one its state. A record that is to be
+        sound, and is not, is an idle one in its place."""
+        state = number(self.some(16))
         self.bench.last = last
-        a, block = self.some(16)
-        self.bench.lanes[lane].block = int.from_bytes(block, "big")
-        self.write(PUT, a=a, named=lane)
+        for n, (l, record) in enumerate(zip(self.bench.lanes, records)):
+            l.phase, l.direction, l.count = record
+            if n == lane:
+                l.block = state
+            if n != wrong and not l.sound():
+                self.bench.lanes[n] = Lane()
+        self.write("put", {})
 
     # ---- one call by chance: good ones mostly, and every limit now and then
 
     def any_lane(self, phase=None):
         r = self.random
         if r.random() < 0.08:
-            return r.choice([4, 5, 255, 256, 257, 2 ** 31, BIG])
-        wanted = [n for n in range(4) if self.bench.lanes[n].phase == phase]
+            return r.choice([LANES, LANES + 1, 255, 256, 257, 2 ** 31, BIG])
+        wanted = [n for n in range(LANES) if self.bench.lanes[n].phase == phase]
         if wanted and r.random() < 0.75:
             return r.choice(wanted)
-        return r.randrange(4)
+        return r.randrange(LANES)
 
     def any_length(self):
         return 16 if self.random.random() < 0.85 else self.random.choice([0, 15, 17])
 
     def any_call(self):
         r = self.random
-        kind = r.choices([OPEN, TURN, TAKE, CLOSE], [35, 30, 27, 8])[0]
-        if kind == OPEN:
+        kind = r.choices(["open", "turn", "take", "close"], [35, 30, 27, 8])[0]
+        if kind == "open":
             direction = r.choice([0, 1]) if r.random() < 0.88 else r.choice([2, 3, 256, 257, BIG])
             self.open(self.any_lane(IDLE), direction, self.any_length(), self.any_length())
-        elif kind == TURN:
+        elif kind == "turn":
             self.turn(r.choice([0, 1, 1, 2, 3, 3, 7, 7, 8, 8, 15, 31, 32, 32, 100, 1023, 1024, 1025, 1026, 65536, 2 ** 31, BIG]))
-        elif kind == TAKE:
+        elif kind == "take":
             length = 16 if r.random() < 0.8 else r.choice([0, 15, 17])
             self.take(self.any_lane(FINISHED), length)
         else:
@@ -275,16 +253,17 @@ class Script:
     # ---- the parts of the list
 
     def small_facts(self):
-        """The rows of "Small facts" that are run and compared, with what their lines say."""
+        self.heading("document 01's small facts")
         phases = lambda: [l.phase for l in self.bench.lanes]
+        whole = 8 * LANES
         self.fresh()
-        assert [self.open(n, n % 2) for n in range(4)] == [0, 0, 0, 0]
-        assert self.turn(31) == (0, 31) and phases() == [FINISHED, FINISHED, FINISHED, RUNNING]
-        assert self.turn(1) == (0, 1) and phases() == [FINISHED] * 4
-        assert [self.take(n) for n in range(4)] == [0, 0, 0, 0]
+        assert [self.open(n, n % 2) for n in range(LANES)] == [0] * LANES
+        assert self.turn(whole - 1) == (0, whole - 1) and phases() == [FINISHED] * (LANES - 1) + [RUNNING]
+        assert self.turn(1) == (0, 1) and phases() == [FINISHED] * LANES
+        assert [self.take(n) for n in range(LANES)] == [0] * LANES
         self.fresh()
-        assert [self.open(n) for n in range(4)] == [0, 0, 0, 0]
-        assert self.turn(32) == (0, 32) and phases() == [FINISHED] * 4
+        assert [self.open(n) for n in range(LANES)] == [0] * LANES
+        assert self.turn(whole) == (0, whole) and phases() == [FINISHED] * LANES
         self.fresh()
         assert self.open(2) == 0
         assert self.turn(100) == (0, 8) and self.take(2) == 0
@@ -299,91 +278,141 @@ class Script:
 
     def unsound_benches(self):
         """One thing wrong in a bench that is else sound, of every kind and in every lane: every call gives 10."""
+        self.heading("a record or the lane last served not sound, put by the host")
         wrong = [(p, 0, c) for p in (3, 4, 255) for c in (0, 1, 8)]
         wrong += [(IDLE, 0, 1), (IDLE, 1, 8), (IDLE, 0, 255)]
         wrong += [(RUNNING, 0, 8), (RUNNING, 1, 9), (RUNNING, 0, 255)]
         wrong += [(FINISHED, 0, 0), (FINISHED, 1, 7), (FINISHED, 0, 9), (FINISHED, 0, 255)]
         wrong += [(p, d, {IDLE: 0, RUNNING: 4, FINISHED: 8}[p]) for p in (IDLE, RUNNING, FINISHED) for d in (2, 255)]
-        benches = [(n, record, self.random.randrange(4)) for n, record in enumerate(wrong)]
-        benches += [(None, None, last) for last in (4, 5, 255, 256, 2 ** 31, BIG)]
+        benches = [(n, record, self.random.randrange(LANES)) for n, record in enumerate(wrong)]
+        benches += [(None, None, last) for last in (LANES, LANES + 1, 255, 256, 2 ** 31, BIG)]
         for n, record, last in benches:
-            records = [self.any_record() for _ in range(4)]
+            records = [self.any_record() for _ in range(LANES)]
             if record:
-                records[n % 4] = record
-            self.put(records, last, self.random.randrange(4))
-            given = [self.open(self.any_lane(IDLE)), self.open(9, 9, 15, 15)]
+                records[n % LANES] = record
+            self.put(records, last, self.random.randrange(LANES), None if record is None else n % LANES)
+            given = [self.open(self.any_lane(IDLE)), self.open(LANES + 5, 9, 15, 15)]
             given += [self.turn(self.random.choice([0, 1, 32]))[0], self.turn(1025)[0]]
             given += [self.take(self.any_lane(FINISHED)), self.take(BIG, 17), self.close(self.any_lane()), self.close(n or 0)]
             assert given == [10] * 8
         self.fresh()
 
     def sound_benches(self):
-        """Sound records that no call made: idle with a direction and a state, running at every count, finished."""
+        """Sound records that no call made: idle, running at every count with any state, finished."""
+        self.heading("sound records that no call made, put by the host")
         for n in range(40):
             if n % 4 == 0:
                 self.fresh()
-                for lane in range(4):
+                for lane in range(LANES):
                     self.open(lane, self.random.randrange(2))
-            records = [self.any_record() for _ in range(4)]
-            records[n % 4] = (RUNNING, n // 8 % 2, n % 8)
-            self.put(records, self.random.randrange(4), n % 4)
+            records = [self.any_record() for _ in range(LANES)]
+            records[n % LANES] = (RUNNING, n // 8 % 2, n % 8)
+            self.put(records, self.random.randrange(LANES), n % LANES)
             for _ in range(6):
                 self.any_call()
-            self.turn(32)
-            self.take(n % 4)
+            self.turn(8 * LANES)
+            self.take(n % LANES)
         self.fresh()
 
     def by_chance(self):
+        self.heading("calls by chance, good ones and every refusal")
         left = 0
-        while len(self.records) < CALLS:
+        while self.calls() < CALLS:
             if left == 0:
                 self.fresh()
                 left = self.random.choice([5, 20, 60, 120])
             self.any_call()
             left -= 1
 
+    def wide_counts(self):
+        """Counts that are sound but for their higher byte: every call gives 10."""
+        self.heading("a count of sixteen bits not sound, put by the host")
+        for n, record in enumerate([(IDLE, 0, 256), (RUNNING, 0, 256), (RUNNING, 1, 263), (FINISHED, 0, 264), (FINISHED, 1, 8 << 8), (RUNNING, 0, 65535)]):
+            records = [self.any_record() for _ in range(LANES)]
+            records[n % LANES] = record
+            self.put(records, n % LANES, n % LANES, n % LANES)
+            given = [self.open(self.any_lane(IDLE)), self.turn(1)[0], self.take(self.any_lane(FINISHED)), self.close(n % LANES)]
+            assert given == [10] * 4
+        self.fresh()
 
-# ---- what is known of the cipher by other means
+    def idle_records(self):
+        """An idle record with one thing in it: one bit in its direction, its count, a word of its state or one of the eighty, or words of no key. Every call gives 10."""
+        self.heading("an idle record with one thing in it, put by the host")
+        bit = lambda width: 1 << self.random.randrange(width)
+        some = lambda places: [bit(32) if i in places else 0 for i in range(80)]
+        changes = [("words", some([i])) for i in range(80)] + [("words", some(range(80))), ("key", self.some(16))]
+        changes += [("block", 1 << 4 * self.random.randrange(32) + j) for j in range(4)] + [("direction", bit(8)), ("count", bit(8)), ("count", bit(8) << 8)]
+        for k, change in enumerate(changes):
+            n, other = k % LANES, (k + 1) % LANES
+            calls = [lambda: self.turn(8)[0], lambda: self.open(n), lambda: self.close(n), lambda: self.take(other)]
+            self.fresh()
+            self.open(other)
+            self.turn(8)
+            setattr(self.bench.lanes[n], *change)
+            self.write("put", {})
+            assert calls[k // LANES % 4]() == 10
+        self.fresh()
 
-def run(key, block):
-    bench = Bench()
-    bench.open(0, 0, bytes.fromhex(key), bytes.fromhex(block))
-    bench.turn(8)
-    return bench.take(0, bytes(16))[1].hex()
+    def wiped_lanes(self):
+        """Every lane opened both ways, and taken from or closed after none, some and all of its turns: the bench is fresh again but for the lane last served."""
+        self.heading("lanes wiped by a take and by a close, at every count")
+        for n in range(LANES):
+            for count in range(9):
+                self.open(n, count % 2)
+                self.turn(count)
+                given = self.take(n) if count == 8 and n % 2 == 0 else self.close(n)
+                assert given == 0 and all(l.sound() and l.phase == IDLE for l in self.bench.lanes)
+        assert self.close(0) == 0
+        self.fresh()
 
 
-def checked():
-    assert [TABLE[x] for x in (0, 8, 13, 15)] == [1, 2, 0, 14]
-    assert [moved(i) for i in (0, 1, 2, 3, 4, 5, 16, 127)] == [0, 33, 66, 99, 96, 1, 4, 31]
-    assert packed(1) == [1, 0, 0, 0] and packed(2) == [0, 1, 0, 0] and packed(1 << 127) == [0, 0, 0, 1 << 31]
-    assert round_done(0, rounds_of(bytes(16))[0]).to_bytes(16, "big").hex() == "91" + 14 * "11" + "19"
-    # the designers' vectors
-    assert run(32 * "0", 32 * "0") == "cd0bd738388ad3f668b15a36ceb6ff92"
-    assert run(2 * "fedcba9876543210", 2 * "fedcba9876543210") == "8422241a6dbf5a9346af468409ee0152"
-    assert run("d0f5c59a7700d3e799028fa9f90ad837", "e39c141fa57dba43f08a85b6a91f86c1") == "13ede67cbdcc3dbf400a62d6977265ea"
+# ---- cases that are wrong
+
+def damaged(fields, name):
+    digits = fields.get(name, "0" * {"key": 32, "words": 640, "state": 32}.get(name, 1))
+    return {**fields, name: ("1" if digits[:1] in "0" else "0") + digits[1:]}
+
+
+def wrong_cases(cases):
+    """Of every call, every number that it gives and both ways to tell words, one case again and again, each time with one digit damaged."""
+    for (call, _, plain), (before, last, after, fields, gives) in cases.items():
+        tries = []
+        for n, told in enumerate(after):
+            words = "key" if plain or "key" in told else "words"
+            tries += [(after[:n] + [damaged(told, name)] + after[n + 1:], gives) for name in ("phase", "direction", "count", words, "state")]
+        tries += [(after, damaged(gives, name)) for name in gives]
+        for records, given in tries:
+            yield from (record(n, r) for n, r in enumerate(before))
+            yield "put last=%x" % last
+            yield from (record(n, r) for n, r in enumerate(records))
+            yield line(call, {**fields, **given})
 
 
 def main():
-    checked()
     script = Script()
     script.small_facts()
     script.unsound_benches()
     script.sound_benches()
     script.by_chance()
-    crate = os.path.join(os.path.dirname(os.path.abspath(__file__)), "..", "crates", "bench_replay")
-    with open(os.path.join(crate, "data", "calls"), "wb") as f:
-        f.write(b"".join(script.pool + script.records))
-    lines = ["%s: %d" % (name, script.kinds[kind]) for kind, name in enumerate(KINDS)]
-    lines += ["number %d: %d" % (n, script.numbers[n]) for n in NUMBERS]
-    lines += ["%d calls, 0 different" % (len(script.records) - script.kinds[PUT])]
-    with open(os.path.join(crate, "stdout"), "w") as f:
-        f.write("\n".join(lines) + "\n")
+    script.wide_counts()
+    script.idle_records()
+    script.wiped_lanes()
+    if sys.argv[1:] == ["--wrong"]:
+        print("\n".join(wrong_cases(script.cases)))
+        return
     # every number of every call's order is met
-    for kind, order in ORDERS.items():
-        print("%-5s" % KINDS[kind], ", ".join("number %d: %d" % (n, script.both[kind, n]) for n in order))
-        assert all(script.both[kind, n] for n in order)
-    print("all   " + ", ".join("number %d: %d" % (n, script.numbers[n]) for n in NUMBERS))
-    print("%d records, %d bytes" % (len(script.records), POOL * ENTRY + 64 * len(script.records)))
+    for call, order in ORDERS.items():
+        print("%-9s %4d: " % (call, script.kinds[call]) + ", ".join("number %d: %d" % (n, script.both[call, n]) for n in order))
+        assert all(script.both[call, n] for n in order)
+    print("fresh     %4d" % script.kinds["fresh"])
+    os.chdir(os.path.join(os.path.dirname(os.path.abspath(__file__)), ".."))
+    stored = "crates/replay/stdin"
+    kept = open(stored).read().split(FIRST + "\n")[0]
+    with open(stored, "w") as f:
+        f.write(kept + "\n".join([FIRST, *script.lines]) + "\n")
+    with open("crates/replay/stdout", "w") as f:
+        subprocess.run(["oracle/expected", stored], stdout=f, check=True)
+    print("%d calls, records put by the host %d times, %d bytes" % (script.calls(), script.kinds["put"], sum(len(l.encode()) + 1 for l in script.lines)))
 
 
 main()

@@ -1,8 +1,9 @@
 //! Makes cases and the answers that the crate gives to them, as lines that the program `replay` reads.
 //!
 //! consts, primitives and key_schedule are the crate's own files, and blocks has the two block functions of its lib.rs, word for word;
-//! `oracle/run` puts them beside this file, and cipher, which stands in for the types that the two functions name. What the crate cannot be asked comes from document 01, and is marked so below: the
-//! refusals, since the crate takes arrays of the right length alone, and round 1 by itself, which it never stops after.
+//! `oracle/run` puts them beside this file, and cipher, which stands in for the types that the two functions name. What the crate cannot be asked comes from document 01, or is
+//! the port's stated answer: the refusals, since the crate takes arrays of the right length alone, and round 1 by itself, which it never stops after. The two kinds of
+//! answers are counted apart.
 
 mod blocks;
 mod cipher;
@@ -11,7 +12,6 @@ mod key_schedule;
 mod primitives;
 
 use cipher::{Gift128, InOut};
-use std::fmt::Display;
 use std::io::{self, BufWriter, Write};
 
 // ---- the crate's answers
@@ -151,10 +151,36 @@ fn words(ws: &[u32]) -> String {
     ws.iter().map(|w| format!("{w:08x}")).collect()
 }
 
+/// A number of one word, and one of two.
+fn number(n: u32) -> String {
+    format!("{n:x}")
+}
+
+fn wide(n: usize) -> String {
+    format!("{n:016x}")
+}
+
+/// Who gives a case's answer: the crate; the plain rounds below; or document 01, or this port, that says of a refusal what comes of it.
+#[derive(Clone, Copy)]
+enum Judge {
+    Crate,
+    Plain,
+    Stated,
+}
+
+impl Judge {
+    /// The crate where it can be asked.
+    fn crate_if(asked: bool) -> Judge {
+        if asked { Judge::Crate } else { Judge::Stated }
+    }
+}
+
 struct Cases {
     out: BufWriter<io::Stdout>,
     full: bool,
     seed: u64,
+    /// How many answers came from each judge.
+    judged: [usize; 3],
 }
 
 impl Cases {
@@ -177,16 +203,14 @@ impl Cases {
         writeln!(self.out, "## {text}").unwrap();
     }
 
-    fn case(&mut self, name: &str, fields: &[&dyn Display], answer: &[&dyn Display]) {
+    /// A call with its fields.
+    fn case(&mut self, judge: Judge, name: &str, fields: &[(&str, String)]) {
         write!(self.out, "{name}").unwrap();
-        for f in fields {
-            write!(self.out, " {f}").unwrap();
-        }
-        write!(self.out, " =").unwrap();
-        for a in answer {
-            write!(self.out, " {a}").unwrap();
+        for (field, digits) in fields {
+            write!(self.out, " {field}={digits}").unwrap();
         }
         writeln!(self.out).unwrap();
+        self.judged[judge as usize] += 1;
     }
 
     // numbers by splitmix64
@@ -225,7 +249,8 @@ impl Cases {
             (Some(k), Some(b)) => by_key(way, &k, &b).to_vec(),
             _ => block.to_vec(),
         };
-        self.case(&way.name("by_key"), &[&hex(key), &hex(block)], &[&code, &hex(&after)]);
+        let fields = [("key", hex(key)), ("lent", hex(block)), ("number", number(code)), ("left", hex(&after))];
+        self.case(Judge::crate_if(code == 0), &way.name("by_key"), &fields);
     }
 
     fn one_round_case(&mut self, key: &[u8], block: &[u8]) {
@@ -234,7 +259,8 @@ impl Cases {
             (Some(k), Some(b)) => plain_rounds(&k, &b, 1).to_vec(),
             _ => block.to_vec(),
         };
-        self.case("one_round", &[&hex(key), &hex(block)], &[&code, &hex(&after)]);
+        let fields = [("key", hex(key)), ("lent", hex(block)), ("number", number(code)), ("left", hex(&after))];
+        self.case(if code == 0 { Judge::Plain } else { Judge::Stated }, "one_round", &fields);
     }
 
     /// A `Gift128` made from a refused key has eighty zero words (document 01).
@@ -244,7 +270,8 @@ impl Cases {
             Some(b) => (0, by_words(way, &k, &b).to_vec()),
             None => (2, block.to_vec()),
         };
-        self.case(&way.name("block"), &[&hex(key), &hex(block)], &[&code, &hex(&after)]);
+        let fields = [("key", hex(key)), ("lent", hex(block)), ("number", number(code)), ("left", hex(&after))];
+        self.case(Judge::crate_if(key.len() == 16 && code == 0), &way.name("block"), &fields);
     }
 
     fn new_case(&mut self, key: &[u8]) {
@@ -252,7 +279,7 @@ impl Cases {
             Some(k) => (0, key_schedule::precompute_rkeys(&k)),
             None => (1, [0; 80]),
         };
-        self.case("new", &[&hex(key)], &[&code, &words(&k)]);
+        self.case(Judge::crate_if(code == 0), "new", &[("key", hex(key)), ("number", number(code)), ("gives", words(&k))]);
     }
 
     fn words_case(&mut self, way: Way, ws: &[u32], block: &[u8]) {
@@ -261,7 +288,8 @@ impl Cases {
             (_, None) => (2, block.to_vec()),
             (Some(k), Some(b)) => (0, by_words(way, &k, &b).to_vec()),
         };
-        self.case(&way.name("by_words"), &[&words(ws), &hex(block)], &[&code, &hex(&after)]);
+        let fields = [("words", words(ws)), ("lent", hex(block)), ("number", number(code)), ("left", hex(&after))];
+        self.case(Judge::crate_if(code == 0), &way.name("by_words"), &fields);
     }
 
     fn many_case(&mut self, way: Way, key: &[u8], input: &[u8], output: &[u8]) {
@@ -272,7 +300,8 @@ impl Cases {
         } else {
             output.to_vec()
         };
-        self.case(&way.name("blocks"), &[&hex(key), &hex(input), &hex(output)], &[&code, &hex(&after)]);
+        let fields = [("key", hex(key)), ("input", hex(input)), ("lent", hex(output)), ("number", number(code)), ("left", hex(&after))];
+        self.case(Judge::crate_if(code == 0 && !input.is_empty()), &way.name("blocks"), &fields);
     }
 
     fn expand_case(&mut self, key: &[u8], ws: &[u32]) {
@@ -281,7 +310,8 @@ impl Cases {
             Some(_) if ws.len() != 80 => (4, ws.to_vec()),
             Some(k) => (0, key_schedule::precompute_rkeys(&k).to_vec()),
         };
-        self.case("precompute_rkeys", &[&hex(key), &words(ws)], &[&code, &words(&after)]);
+        let fields = [("key", hex(key)), ("lent", words(ws)), ("number", number(code)), ("left", words(&after))];
+        self.case(Judge::crate_if(code == 0), "precompute_rkeys", &fields);
     }
 
     /// Fewer than ten words, or an offset that is none of 0, 5, .. 35, leave the state as it is: the stated answer of the port, since
@@ -290,18 +320,20 @@ impl Cases {
         let good = ws.len() >= 10 && i <= 35 && i % 5 == 0;
         let t = if good { quintuple(way, s, ws, i) } else { *s };
         let name = if way == Encrypt { "quintuple_round" } else { "inv_quintuple_round" };
-        self.case(name, &[&words(s), &words(ws), &i], &[&words(&t)]);
+        let fields = [("args", words(s)), ("words", words(ws)), ("offset", wide(i)), ("gives", words(&t))];
+        self.case(Judge::crate_if(good), name, &fields);
         t
     }
 
     fn packing_case(&mut self, block: &[u8]) {
         let s = array(block).map_or([0; 4], |b| packed(&b));
-        self.case("packing", &[&hex(block)], &[&words(&s)]);
+        self.case(Judge::crate_if(block.len() == 16), "packing", &[("input", hex(block)), ("gives", words(&s))]);
     }
 
     fn unpacking_case(&mut self, s: &State, block: &[u8]) {
         let after = if block.len() == 16 { unpacked(s).to_vec() } else { block.to_vec() };
-        self.case("unpacking", &[&words(s), &hex(block)], &[&hex(&after)]);
+        let fields = [("args", words(s)), ("lent", hex(block)), ("number", number(0)), ("left", hex(&after))];
+        self.case(Judge::crate_if(block.len() == 16), "unpacking", &fields);
     }
 }
 
@@ -471,7 +503,8 @@ fn first_rounds(c: &mut Cases) {
         let w = key_schedule::precompute_rkeys(&k);
         let n = 2 + c.next() as usize % c.some(79, 3);
         let after = packed(&plain_rounds(&k, &b, 1));
-        c.case("first_round", &[&words(&packed(&b)), &words(&w[..n])], &[&words(&after)]);
+        let fields = [("args", words(&packed(&b))), ("words", words(&w[..n])), ("gives", words(&after))];
+        c.case(Judge::Plain, "first_round", &fields);
     }
 }
 
@@ -510,23 +543,23 @@ fn many_blocks(c: &mut Cases) {
 fn small_parts(c: &mut Cases) {
     c.heading("round_constant, the table");
     for (i, w) in consts::GIFT_RC.iter().enumerate() {
-        c.case("round_constant", &[&i], &[&words(&[*w])]);
+        c.case(Judge::Crate, "round_constant", &[("args", wide(i)), ("gives", number(*w))]);
     }
     c.heading("sbox, inv_sbox");
     for _ in 0..c.some(2_000, 4) {
         let s = c.state();
         let [mut s0, mut s1, mut s2, mut s3] = s;
         primitives::sbox(&mut s0, &mut s1, &mut s2, &mut s3);
-        c.case("sbox", &[&words(&s)], &[&words(&[s0, s1, s2, s3])]);
+        c.case(Judge::Crate, "sbox", &[("args", words(&s)), ("gives", words(&[s0, s1, s2, s3]))]);
         let [mut s0, mut s1, mut s2, mut s3] = s;
         primitives::inv_sbox(&mut s0, &mut s1, &mut s2, &mut s3);
-        c.case("inv_sbox", &[&words(&s)], &[&words(&[s0, s1, s2, s3])]);
+        c.case(Judge::Crate, "inv_sbox", &[("args", words(&s)), ("gives", words(&[s0, s1, s2, s3]))]);
     }
     c.heading("u32big");
     for _ in 0..c.some(1_000, 3) {
         let b = c.bytes(4);
-        let wide: Vec<u32> = b.iter().map(|b| *b as u32).collect();
-        c.case("u32big", &[&words(&wide)], &[&words(&[primitives::u32big(&b)])]);
+        let four: Vec<u32> = b.iter().map(|b| *b as u32).collect();
+        c.case(Judge::Crate, "u32big", &[("args", words(&four)), ("gives", number(primitives::u32big(&b)))]);
     }
     let rotations: [(&str, fn(&u32) -> u32); 9] = [
         ("byte_ror_2", primitives::byte_ror_2),
@@ -542,18 +575,19 @@ fn small_parts(c: &mut Cases) {
     c.heading("the nine rotations inside bytes, halves and nibbles");
     for (name, f) in rotations {
         for n in c.spread(32, 2) {
-            c.case(name, &[&words(&[1 << n])], &[&words(&[f(&(1 << n))])]);
+            c.case(Judge::Crate, name, &[("args", number(1 << n)), ("gives", number(f(&(1 << n))))]);
         }
         for _ in 0..c.some(500, 1) {
             let x = c.next() as u32;
-            c.case(name, &[&words(&[x])], &[&words(&[f(&x)])]);
+            c.case(Judge::Crate, name, &[("args", number(x)), ("gives", number(f(&x)))]);
         }
     }
     c.heading("ror, by 0 to 99 places");
     for y in c.spread(100, 6) {
         for _ in 0..c.some(20, 1) {
             let x = c.next() as u32;
-            c.case("ror", &[&words(&[x]), &y], &[&words(&[primitives::ror(&x, &(y as u32))])]);
+            let y = y as u32;
+            c.case(Judge::Crate, "ror", &[("args", words(&[x, y])), ("gives", number(primitives::ror(&x, &y)))]);
         }
     }
     // a shift by 32 or more goes by its last five bits in an optimised build, as this one is
@@ -563,10 +597,10 @@ fn small_parts(c: &mut Cases) {
             let [a, b, mask, _] = c.state();
             let (mut p, mut q) = (a, b);
             primitives::swapmove(&mut p, &mut q, mask, n as u8);
-            c.case("swapmove", &[&words(&[a, b, mask]), &n], &[&words(&[p, q])]);
+            c.case(Judge::Crate, "swapmove", &[("args", words(&[a, b, mask, n as u32])), ("gives", words(&[p, q, 0, 0]))]);
             let mut p = a;
             primitives::swapmovesingle(&mut p, mask, n as u8);
-            c.case("swapmovesingle", &[&words(&[a, mask]), &n], &[&words(&[p])]);
+            c.case(Judge::Crate, "swapmovesingle", &[("args", words(&[a, mask, n as u32])), ("gives", number(p))]);
         }
     }
 }
@@ -637,7 +671,7 @@ fn refusals(c: &mut Cases) {
     c.heading("first_round, too few words");
     for w in 0..2 {
         let (s, w) = (c.state(), c.words(w));
-        c.case("first_round", &[&words(&s), &words(&w)], &[&words(&s)]);
+        c.case(Judge::Stated, "first_round", &[("args", words(&s)), ("words", words(&w)), ("gives", words(&s))]);
     }
     c.heading("packing, unpacking, of any length");
     for b in c.lengths(33, &edges) {
@@ -647,7 +681,7 @@ fn refusals(c: &mut Cases) {
     }
     c.heading("round_constant, past the table");
     for r in (40..60).chain([usize::MAX]) {
-        c.case("round_constant", &[&r], &[&words(&[0])]);
+        c.case(Judge::Stated, "round_constant", &[("args", wide(r)), ("gives", number(0))]);
     }
 }
 
@@ -666,7 +700,7 @@ fn main() {
         Some("sample") => false,
         _ => panic!("usage: driver full|sample"),
     };
-    let mut c = Cases { out: BufWriter::new(io::stdout()), full, seed: 128 };
+    let mut c = Cases { out: BufWriter::new(io::stdout()), full, seed: 128, judged: [0; 3] };
     check_the_plain_rounds(&mut c);
     blocks_by_key(&mut c);
     by_an_instance(&mut c);
@@ -679,4 +713,6 @@ fn main() {
     small_parts(&mut c);
     refusals(&mut c);
     c.out.flush().unwrap();
+    let [by_crate, by_rounds, stated] = c.judged;
+    eprintln!("{by_crate} cases answered by the crate, {by_rounds} by plain rounds of document 01, {stated} stated by document 01 or this port");
 }

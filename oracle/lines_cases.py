@@ -1,9 +1,10 @@
 #!/usr/bin/env python3
 """Lines for the line program, good ones and ones damaged in every way that document 01 leads one to try.
 
-usage: lines_cases.py SEED COUNT     COUNT lines of each kind, shuffled; the last one has no newline
+usage: lines_cases.py SEED COUNT     COUNT lines of each kind, and ten times COUNT keys and blocks by both engines, shuffled; the last one has no newline
        lines_cases.py kinds          the kinds, one to a line
-       lines_cases.py stored         the input of the stored run: document 01's example, then two lines of each kind and a good one after them
+       lines_cases.py stored         the input of the stored run: document 01's example, then two lines of each kind and a good one after them, these by the
+                                     letters E, D, R and P; then the same inputs by both engines
 """
 import random
 import sys
@@ -12,9 +13,15 @@ HEX = b"0123456789abcdef"
 EXAMPLE = b"R " + b"0" * 32 + b" " + b"0" * 32 + b"\nP " + b"0" * 32 + b" " + b"0" * 31 + b"1\nX\n"
 
 
+# Key and block of the designers' three test vectors.
+DESIGNERS = [(b"0" * 32, b"0" * 32), (b"fedcba9876543210" * 2, b"fedcba9876543210" * 2),
+             (b"d0f5c59a7700d3e799028fa9f90ad837", b"e39c141fa57dba43f08a85b6a91f86c1")]
+
+
 class Lines:
-    def __init__(self, seed):
+    def __init__(self, seed, letters=b"EDRPFG"):
         self.random = random.Random(seed)
+        self.letters = letters
 
     def digits(self, n=32):
         kind = self.random.randrange(8)
@@ -26,7 +33,7 @@ class Lines:
         return bytes(self.random.choice(HEX) for _ in range(n))
 
     def good(self, letter=None):
-        return (letter or bytes([self.random.choice(b"EDRP")])) + b" " + self.digits() + b" " + self.digits()
+        return (letter or bytes([self.random.choice(self.letters)])) + b" " + self.digits() + b" " + self.digits()
 
     def put(self, at, what):
         """A good line with the byte at one of the places exchanged for `what`."""
@@ -54,10 +61,10 @@ class Lines:
         return self.put(self.digit_places(), self.other(HEX))
 
     def no_letter(self):
-        return self.put([0], self.other(b"EDRP"))
+        return self.put([0], self.other(self.letters))
 
     def small_letter(self):
-        return self.put([0], self.random.choice(b"edrp"))
+        return self.put([0], self.random.choice(self.letters.lower()))
 
     def no_space(self):
         return self.put([1, 34], self.other(b" "))
@@ -87,7 +94,7 @@ class Lines:
     def uneven(self):
         """67 bytes, but the middle space is not in its place."""
         n = self.random.choice([0, 1, 30, 31, 33, 34, 64])
-        return bytes([self.random.choice(b"EDRP")]) + b" " + self.digits(n) + b" " + self.digits(64 - n)
+        return bytes([self.random.choice(self.letters)]) + b" " + self.digits(n) + b" " + self.digits(64 - n)
 
     def cut(self):
         return self.good()[:self.random.randrange(1, 67)]
@@ -110,29 +117,38 @@ KINDS = {
     "empty": lambda l: b"",
     **{name.replace("_", " "): getattr(Lines, name) for name in """capital capitals beside_a_digit no_digit no_letter small_letter no_space tab
         nul added_at_end added_at_start one_missing one_more uneven cut anything overlong overlong_good_end""".split()},
+    **{f"good {x}": (lambda l, x=x: l.good(x.encode())) for x in "FG"},
 }
 
 
+def both_engines(l, count):
+    """Each key and block by E and F, and by D and G; last a line of F with a small letter, and one of G with a capital digit."""
+    inputs = DESIGNERS + [(l.digits(), l.digits()) for _ in range(count)]
+    lines = [letter + b" " + key + b" " + block for key, block in inputs for letter in (b"E", b"F", b"D", b"G")]
+    return lines + [b"f" + lines[1][1:], lines[-1][:-1] + b"A"]
+
+
 def stored():
-    l = Lines(1)
-    lines = [line for make in KINDS.values() for line in (make(l), make(l), l.good())]
-    return EXAMPLE + b"".join(x + b"\n" for x in lines) + l.good(b"D")
+    l = Lines(1, b"EDRP")
+    lines = [line for name, make in KINDS.items() if name not in ("good F", "good G") for line in (make(l), make(l), l.good())]
+    more = both_engines(Lines(2), 9)
+    return EXAMPLE + b"".join(x + b"\n" for x in [*lines, l.good(b"D"), *more]) + l.good(b"G")
 
 
 def shuffled(seed, count):
     l = Lines(seed)
-    lines = [(name, make(l)) for name, make in KINDS.items() for _ in range(count)]
+    lines = [make(l) for make in KINDS.values() for _ in range(count)] + both_engines(l, 10 * count)
     l.random.shuffle(lines)
-    while lines[-1][1] == b"":
+    while lines[-1] == b"":
         lines.insert(0, lines.pop())
-    return b"\n".join(x for _, x in lines)
+    return b"\n".join(lines)
 
 
 if __name__ == "__main__":
     if sys.argv[1:] == ["stored"]:
         sys.stdout.buffer.write(stored())
     elif sys.argv[1:] == ["kinds"]:
-        print("\n".join(KINDS))
+        print("\n".join([*KINDS, "times ten keys and blocks, each by E and F and by D and G"]))
     else:
         seed, count = map(int, sys.argv[1:])
         sys.stdout.buffer.write(shuffled(seed, count))

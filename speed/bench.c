@@ -1,7 +1,7 @@
-/* What a call over lent records costs: its time, beside the bare work in it, and its stack. `speed/bench` builds and runs it.
+/* What a call over lent records costs: its time, beside the bare work in it, and its stack; and a block by the plain engine. `speed/bench` builds and runs it.
  *
  * A time is read from the processor's time stamp counter: the median of many calls, each on the same records, less that of a call that does nothing.
- * q, a quintuple round, is an eighth of gift_encrypt_by_words on one block; e is gift_expand.
+ * q, a quintuple round, is an eighth of gift_encrypt_by_words on one block; e is gift_expand; k is one block by a key by the fixsliced engine, the same way.
  * A stack is what a call writes below its caller: the call runs on a stack of its own that was painted before. */
 #include <stdint.h>
 #include <stdio.h>
@@ -48,17 +48,29 @@ static uint32_t no_close(gift_lane *l, size_t n, uint32_t last_served, uint32_t 
     return GIFT_DONE;
 }
 
+static uint32_t no_block(const uint8_t *k, size_t k_len, uint8_t *b, size_t b_len)
+{
+    (void)k, (void)k_len, (void)b, (void)b_len;
+    return GIFT_DONE;
+}
+
 static __typeof__(&gift_open_lane) volatile open_call;
 static __typeof__(&gift_turn) volatile turn_call;
 static __typeof__(&gift_take) volatile take_call;
 static __typeof__(&gift_close) volatile close_call;
+static __typeof__(&gift_encrypt_by_key) volatile encrypt_call, decrypt_call;
 
-static void real(void) { open_call = gift_open_lane, turn_call = gift_turn, take_call = gift_take, close_call = gift_close; }
-static void unreal(void) { open_call = no_open, turn_call = no_turn, take_call = no_take, close_call = no_close; }
+static void real(void) { open_call = gift_open_lane, turn_call = gift_turn, take_call = gift_take, close_call = gift_close, encrypt_call = gift_plain_encrypt_by_key, decrypt_call = gift_plain_decrypt_by_key; }
+static void unreal(void) { open_call = no_open, turn_call = no_turn, take_call = no_take, close_call = no_close, encrypt_call = decrypt_call = no_block; }
 
-static void nothing(void) { code = no_close(lanes, GIFT_LANES, last, 0); }
+static __typeof__(&gift_close) volatile no_call = no_close;
+static void nothing(void) { code = no_call(lanes, GIFT_LANES, last, 0); }
 static void by_words(void) { code = gift_encrypt_by_words(words, GIFT_WORDS, block, sizeof block); }
 static void expand(void) { code = gift_expand(key, sizeof key, words, GIFT_WORDS); }
+static void encrypt(void) { code = gift_encrypt_by_key(key, sizeof key, block, sizeof block); }
+static void decrypt(void) { code = gift_decrypt_by_key(key, sizeof key, block, sizeof block); }
+static void plain_encrypt(void) { code = encrypt_call(key, sizeof key, block, sizeof block); }
+static void plain_decrypt(void) { code = decrypt_call(key, sizeof key, block, sizeof block); }
 
 static void turns(uint32_t asked)
 {
@@ -113,6 +125,7 @@ static uint64_t now(void)
 static uint64_t once(void (*call)(void))
 {
     memcpy(lanes, kept, sizeof lanes);
+    __builtin_ia32_mfence(); /* the copy is no part of the call */
     uint64_t t = now();
     call();
     return now() - t;
@@ -222,5 +235,7 @@ int main(void)
     in_q("close", closing, 1, GIFT_DONE);
     in_q("a turn refused", too_many_turns, 1, GIFT_TOO_MANY_TURNS);
     in_q("an opening refused", opening, 1, GIFT_LANE_NOT_IDLE);
+    row("plain, encrypting", plain_encrypt, 1, encrypt, 1, "k", GIFT_DONE);
+    row("plain, decrypting", plain_decrypt, 1, decrypt, 1, "k", GIFT_DONE);
     return 0;
 }

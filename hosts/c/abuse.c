@@ -1,5 +1,6 @@
-/* A random walk of 120,000 calls over everything that the library exports, with good and bad arguments, each call held to model.h: the number
- * given back, every byte, word and record lent, and every byte round them. The same walk on each run. Exit status 1 if anything differs. */
+/* A random walk of 100,000 calls over everything that the library exports, with good and bad arguments, and after it every bit of an idle record set
+ * alone, then one of CMAC. Each call is held to model.h: the number given back, every byte, word and record lent, and every byte round them, so that a record is looked
+ * at byte by byte after each take and close. The same calls on each run. Exit status 1 if anything differs. */
 #include <stdio.h>
 #include <string.h>
 
@@ -119,13 +120,15 @@ static uint8_t *expected(room *r)
 
 enum {
     ENCRYPT_BY_KEY, DECRYPT_BY_KEY, ENCRYPT_BY_WORDS, DECRYPT_BY_WORDS, EXPAND, ENCRYPT_BLOCKS,
-    DECRYPT_BLOCKS, OPEN_LANE, TURN, TAKE, CLOSE, MAC, MAC_CHECK, MAC_START, MAC_PIECE, MAC_TAG, KINDS
+    DECRYPT_BLOCKS, OPEN_LANE, TURN, TAKE, CLOSE, MAC, MAC_CHECK, MAC_START, MAC_PIECE, MAC_TAG,
+    PLAIN_ENCRYPT, PLAIN_DECRYPT, KINDS
 };
 
 static const char *const names[KINDS] = {
     "gift_encrypt_by_key", "gift_decrypt_by_key", "gift_encrypt_by_words", "gift_decrypt_by_words", "gift_expand", "gift_encrypt_blocks",
     "gift_decrypt_blocks", "gift_open_lane", "gift_turn", "gift_take", "gift_close",
     "gift_mac", "gift_mac_check", "gift_mac_start", "gift_mac_piece", "gift_mac_tag",
+    "gift_plain_encrypt_by_key", "gift_plain_decrypt_by_key",
 };
 
 static unsigned calls, differences, given[KINDS][11];
@@ -152,7 +155,7 @@ static void hold_room(unsigned kind, const room *r)
 
 static void hold(unsigned kind, uint32_t number, uint32_t must)
 {
-    calls++;
+    calls += kind < PLAIN_ENCRYPT; /* the plain engine's are made beside calls of the walk */
     given[kind][must]++;
     if (number != must && differs(kind))
         printf("the number is %u and must be %u\n", number, must);
@@ -164,16 +167,25 @@ static void hold(unsigned kind, uint32_t number, uint32_t must)
 
 static room keys, blocks, outputs, words;
 
+/* By either engine, each on the same memory. */
 static void by_key(unsigned direction)
 {
+    static uint8_t before[ROOM];
     uint32_t number, must;
     lend(&keys, "key", length(16), 1);
     lend(&blocks, "block", length(16), 1);
+    memcpy(before, blocks.memory, blocks.all);
     must = key_number(keys.length, blocks.length);
     if (must == 0)
         model_by_key(direction, expected(&keys), expected(&blocks), expected(&blocks));
     number = (direction == 0 ? gift_encrypt_by_key : gift_decrypt_by_key)(part(&keys), keys.length, part(&blocks), blocks.length);
     hold(direction == 0 ? ENCRYPT_BY_KEY : DECRYPT_BY_KEY, number, must);
+
+    memcpy(blocks.memory, before, blocks.all);
+    lent[lent_count++] = &keys;
+    lent[lent_count++] = &blocks;
+    number = (direction == 0 ? gift_plain_encrypt_by_key : gift_plain_decrypt_by_key)(part(&keys), keys.length, part(&blocks), blocks.length);
+    hold(direction == 0 ? PLAIN_ENCRYPT : PLAIN_DECRYPT, number, must);
 }
 
 static void by_words(unsigned direction)
@@ -225,7 +237,7 @@ static gift_lane records[RECORDS];  /* as the model has them */
 static uint32_t served = LANES - 1; /* the lane last served */
 static int opened[LANES];           /* by gift_open_lane, and not a record of the host's making; */
 static uint8_t promised[LANES][16]; /* then this is what the lane must yield */
-static unsigned made_by_host, unsound, slices, lasts, turns_made, yielded;
+static unsigned made_by_host, unsound, one_bits, slices, lasts, turns_made, yielded;
 
 static room benches;
 
@@ -244,7 +256,7 @@ static void lend_bench(size_t lanes_len)
     benches.size = lanes_len * sizeof(gift_lane);
 }
 
-/* A sound record such as a host may make: any words on any state. */
+/* A sound record such as a host may make: idle and all zero, or busy with any words on any state. */
 static gift_lane some_record(void)
 {
     gift_lane l;
@@ -253,8 +265,8 @@ static gift_lane some_record(void)
     l.state = (gift_state){(uint32_t)next(), (uint32_t)next(), (uint32_t)next(), (uint32_t)next()};
     l.phase = (uint8_t)below(3);
     l.direction = (uint8_t)below(2);
-    l.count = (uint16_t)(l.phase == 0 ? 0 : l.phase == 1 ? below(8) : 8);
-    return l;
+    l.count = (uint16_t)(l.phase == 1 ? below(8) : 8);
+    return l.phase == 0 ? (gift_lane){0} : l;
 }
 
 static void spoil(gift_lane *l)
@@ -264,7 +276,11 @@ static void spoil(gift_lane *l)
         {3, 0}, {3, 8}, {255, 0}, {255, 8},
     };
     static const uint8_t directions[] = {2, 3, 128, 255};
-    if (below(4) == 0) {
+    if (l->phase == 0 && below(4) != 0) {
+        /* one bit, in any field or any of the 84 words, makes an idle record unsound */
+        uint8_t *byte = (uint8_t *)l + below(sizeof *l);
+        *byte |= (uint8_t)(1u << below(8));
+    } else if (below(4) == 0) {
         l->direction = directions[below(sizeof directions)];
     } else {
         uint32_t n = below(sizeof off / sizeof *off);
@@ -334,6 +350,17 @@ static void close_lane(size_t lanes_len, uint32_t last)
     hold(CLOSE, number, must);
 }
 
+static void call_bench(uint32_t kind, size_t lanes_len, uint32_t last)
+{
+    lend_bench(lanes_len);
+    switch (kind) {
+    case 0: open_lane(lanes_len, last); break;
+    case 1: turn(lanes_len, last); break;
+    case 2: take(lanes_len, last); break;
+    default: close_lane(lanes_len, last); break;
+    }
+}
+
 static uint32_t mood; /* which call is made most, for some calls: so benches get full, and are turned and emptied */
 
 /* A call on the bench as the calls before it left it; now and then the host has put a sound record of its own making there, or any last served
@@ -373,15 +400,28 @@ static void on_the_bench(void)
         lasts++;
     }
 
-    lend_bench(lanes_len);
-    switch (kind) {
-    case 0: open_lane(lanes_len, last); break;
-    case 1: turn(lanes_len, last); break;
-    case 2: take(lanes_len, last); break;
-    default: close_lane(lanes_len, last); break;
-    }
+    call_bench(kind, lanes_len, last);
     if (damaged != NULL)
         *damaged = right;
+}
+
+/* Every bit of an idle record, in every lane, before each of the four calls: set alone, it makes the record unsound, but for the one that makes
+ * it a running record. */
+static void every_bit(void)
+{
+    mischief = 0;
+    for (uint32_t lane = 0; lane < LANES; lane++) {
+        gift_lane right = records[lane];
+        for (size_t bit = 0; bit < 8 * sizeof right; bit++) {
+            records[lane] = (gift_lane){0};
+            ((uint8_t *)&records[lane])[bit / 8] = (uint8_t)(1u << bit % 8);
+            if (sound(&records[lane]))
+                continue;
+            for (uint32_t kind = 0; kind < 4; kind++, one_bits++)
+                call_bench(kind, LANES, served);
+        }
+        records[lane] = right;
+    }
 }
 
 /* ---- CMAC ---- */
@@ -537,8 +577,8 @@ int main(void)
         default: on_the_bench(); break;
         }
     }
-
-    while (calls < CALLS + MAC_CALLS) {
+    every_bit();
+    for (unsigned end = calls + MAC_CALLS; calls < end;) {
         mischief = below(8) < 5 ? 0 : below(4) ? 2 : 5;
         switch (below(12)) {
         case 0: start(); break;
@@ -551,7 +591,7 @@ int main(void)
     printf("%-22s", "number given back:");
     for (unsigned number = 0; number <= 10; number++)
         printf("%7u", number);
-    for (unsigned kind = 0; kind < KINDS; kind++) {
+    for (unsigned kind = 0; kind < PLAIN_ENCRYPT; kind++) {
         printf("\n%-22s", names[kind]);
         for (unsigned number = 0; number <= 10; number++)
             printf("%7u", given[kind][number]);
@@ -560,6 +600,9 @@ int main(void)
     printf("%u turns were made; %u opened lanes yielded what GIFT-128 gives\n", turns_made, yielded);
     printf("%u sound records were the host's; %u calls met an unsound one, %u a slice of another length, %u a last served number that is no lane's\n", made_by_host,
            unsound, slices, lasts);
+    printf("%u calls met an idle record with one bit set, each bit of each lane's record before each of the four calls\n", one_bits);
+    printf("%u of the calls by a key were made by the plain engine, too, on the same memory\n",
+           given[PLAIN_ENCRYPT][0] + given[PLAIN_ENCRYPT][1] + given[PLAIN_ENCRYPT][2] + given[PLAIN_DECRYPT][0] + given[PLAIN_DECRYPT][1] + given[PLAIN_DECRYPT][2]);
     printf("%u checks said yes; %u tags of states were those of the whole message\n", yeses, whole_tags);
     printf("%u calls, %u differences\n", calls, differences);
     return differences > 0;

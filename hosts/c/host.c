@@ -93,6 +93,18 @@ static void withdraw(uint32_t guest)
     waiting--;
 }
 
+/* Every lane was taken from or closed: no byte of a record is left, and so none of a key or of a setting. */
+static void look_for_keys(void)
+{
+    const uint8_t *bytes = (const uint8_t *)lanes;
+    for (size_t i = 0; i < sizeof lanes; i++)
+        if (bytes[i] != 0) {
+            printf("byte %lu of the records is %02x\n", (unsigned long)i, bytes[i]);
+            exit(1);
+        }
+    printf("the records are all zero again\n");
+}
+
 int main(void)
 {
     uint32_t guest, slice, made = 0;
@@ -115,6 +127,7 @@ int main(void)
     }
     for (guest = 0; guest < GUESTS; guest++)
         printf("guest %u worked %u steps\n", guest, steps[guest]);
+    look_for_keys();
     printf("%u turns made between %u slices of work\n", made, slice - 1);
     return 0;
 }

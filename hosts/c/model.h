@@ -252,12 +252,10 @@ static uint32_t model_turn(gift_lane *lanes, uint32_t *last, uint32_t asked)
     return asked;
 }
 
-/* round words stay */
+/* all zero */
 static void model_close(gift_lane *lane)
 {
-    lane->phase = lane->direction = 0;
-    lane->count = 0;
-    lane->state = (gift_state){0, 0, 0, 0};
+    *lane = (gift_lane){0};
 }
 
 static void model_take(gift_lane *lane, uint8_t *out)
@@ -290,10 +288,16 @@ static uint32_t many_number(size_t key_len, size_t input_len, size_t output_len)
 
 static int sound(const gift_lane *lane)
 {
+    if (lane->phase == 0) {
+        const uint8_t *byte = (const uint8_t *)lane;
+        for (size_t i = 0; i < sizeof *lane; i++)
+            if (byte[i] != 0)
+                return 0;
+        return 1;
+    }
     if (lane->direction > 1)
         return 0;
     switch (lane->phase) {
-    case 0: return lane->count == 0;
     case 1: return lane->count <= 7;
     case 2: return lane->count == 8;
     default: return 0;

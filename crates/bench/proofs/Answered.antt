@@ -7,7 +7,7 @@ use mathlib.Core.Logic.{_≢_}
 use Prim.Native.Nat.{ℕ}
 use lib.ListN.{length}
 use Rattle.answers.proofs.Outcome.{if-done, if-refused}
-use Rattle.lane.specs.Record.{opened, yielded, idled}
+use Rattle.lane.specs.Record.{idleLane, opened, yielded}
 use Rattle.bench.specs.declared.Bench.{Bench}
 use Rattle.bench.specs.declared.Answer.{Answer}
 use Rattle.bench.specs.Turning.{laneAt, turnedBy, servedBy}
@@ -67,7 +67,7 @@ module _ (b : Bench) {s : Bool} (sound : s ≡ soundBench b) {r : ℕ} where
     unfolding takeOf takenBytes answered
     take-refused ne = (refused _ _ _ _ take-told ne, sym (if-refused _ (yielded (laneAt (b .lanes) lane) out) out (λ e. ne (take-told ∙ e))))
 
-    pub take-done : r ≡ 0 → {d : Bench} {e : List ℕ} → d ≡ put b lane (idled (laneAt (b .lanes) lane)) → e ≡ yielded (laneAt (b .lanes) lane) out
+    pub take-done : r ≡ 0 → {d : Bench} {e : List ℕ} → d ≡ put b lane idleLane → e ≡ yielded (laneAt (b .lanes) lane) out
         → (answer r 0 d ≡ takeOf b lane out) × (e ≡ takenBytes b lane out)
     unfolding takeOf takenBytes answered
     take-done z d e = (done _ _ _ _ take-told z (λ i. 0) d, e ∙ sym (if-done _ (yielded (laneAt (b .lanes) lane) out) out (sym take-told ∙ z)))
@@ -80,6 +80,6 @@ module _ (b : Bench) {s : Bool} (sound : s ≡ soundBench b) {r : ℕ} where
     unfolding closeOf
     close-refused ne = refused _ _ _ _ close-told ne
 
-    pub close-done : r ≡ 0 → {d : Bench} → d ≡ put b lane (idled (laneAt (b .lanes) lane)) → answer r 0 d ≡ closeOf b lane
+    pub close-done : r ≡ 0 → {d : Bench} → d ≡ put b lane idleLane → answer r 0 d ≡ closeOf b lane
     unfolding closeOf
     close-done z e = done _ _ _ _ close-told z (λ i. 0) e

@@ -6,7 +6,7 @@ use lib.Dec.{eqb, ltb}
 use lib.ListN.{length, set, replicate}
 use Rattle.answers.specs.Order.{ifDone}
 use Rattle.lane.specs.declared.Lane.{Lane}
-use Rattle.lane.specs.Record.{soundLane, opened, lacks, yielded, idled, freshLane}
+use Rattle.lane.specs.Record.{soundLane, idleLane, opened, lacks, yielded}
 use Rattle.bench.specs.declared.Bench.{Bench}
 use Rattle.bench.specs.declared.Answer.{Answer}
 use Rattle.bench.specs.Turning.{laneCount, laneAt, turnedBy, total}
@@ -14,7 +14,7 @@ use Rattle.bench.specs.Orders.{openCode, turnCode, takeCode, closeCode}
 
 -- a fresh bench: all idle, all zero, the last lane the one last served
 unfoldable pub freshBench : Bench
-freshBench = record { lanes = replicate laneCount freshLane; last = laneCount - 1 }
+freshBench = record { lanes = replicate laneCount idleLane; last = laneCount - 1 }
 
 unfoldable pub allSound : List Lane → Bool
 allSound [] = true
@@ -43,11 +43,11 @@ turnOf b asked = answered (turnCode (soundBench b) asked) (min asked (total lack
 unfoldable pub takeOf : Bench → (lane : ℕ) (out : List ℕ) → Answer
 takeOf b lane out =
     answered (takeCode (soundBench b) lane (laneAt (b .lanes) lane .phase) (length out)) 0
-    (put b lane (idled (laneAt (b .lanes) lane))) b
+    (put b lane idleLane) b
 
 -- what stands afterwards in the buffer that was lent for a take
 unfoldable pub takenBytes : Bench → (lane : ℕ) (out : List ℕ) → List ℕ
 takenBytes b lane out = ifDone (takeOf b lane out .code) (yielded (laneAt (b .lanes) lane) out) out
 
 unfoldable pub closeOf : Bench → (lane : ℕ) → Answer
-closeOf b lane = answered (closeCode (soundBench b) lane) 0 (put b lane (idled (laneAt (b .lanes) lane))) b
+closeOf b lane = answered (closeCode (soundBench b) lane) 0 (put b lane idleLane) b

@@ -5,8 +5,7 @@ use answers::DONE;
 use lane::IDLE;
 use lane::Lane;
 use lane::RUNNING;
-use lane::fresh_lane;
-use lane::idled;
+use lane::idle_lane;
 use lane::opened;
 use lane::served;
 use lane::sound_lane;
@@ -18,7 +17,6 @@ use orders::turn_code;
 ghost use mathlib.Core.Path.{_≡_};
 ghost use Prim.Native.Nat.{_<_};
 ghost use lib.ListN.{length};
-ghost use Rattle.lane.specs.Record.{idled};
 ghost use Rattle.bench.specs.Turning.{laneCount, laneAt, after, seek, chosen, turned, turnedBy, servedBy};
 ghost use Rattle.bench.specs.Calls.{freshBench, allSound, soundBench, put, openOf, turnOf, takeOf, takenBytes, closeOf};
 
@@ -164,22 +162,13 @@ fn put(b: Bench, i: usize, l: Lane) -> Bench
     bench
 }
 
-// The lane idle, as after a take.
-fn idle_lane(b: Bench, i: usize) -> Bench
-    requires { ⌜ i < laneCount ⌝ }
-    ensures { λ r. ⌜ r ≡ put b i (idled (laneAt (b .lanes) i)) ⌝ }
-{
-    let l = b.lanes[i];
-    put(b, i, idled(l))
-}
-
 // ---- the calls
 
 // All idle, all zero, the last lane the one last served.
 pub fn fresh() -> Bench
     ensures { λ r. ⌜ r ≡ freshBench ⌝ }
 {
-    let l = fresh_lane();
+    let l = idle_lane();
     let lanes = [l; LANES];
     Bench {
         lanes,
@@ -247,7 +236,7 @@ pub fn take(b: Bench, lane: u32, out: &mut [u8]) -> Answer
     let i = lane as usize;
     let l = b.lanes[i];
     yielded(l, out);
-    let bench = idle_lane(b, i);
+    let bench = put(b, i, idle_lane());
     Answer {
         code,
         made: 0,
@@ -266,7 +255,7 @@ pub fn close(b: Bench, lane: u32) -> Answer
             bench: b,
         };
     }
-    let bench = idle_lane(b, lane as usize);
+    let bench = put(b, lane as usize, idle_lane());
     Answer {
         code,
         made: 0,

@@ -5,7 +5,7 @@ use mathlib.Core.Logic.{_≢_}
 use Prim.Native.Nat.{ℕ, _≤_, _<_}
 use lib.ListN.{length}
 use Rattle.answers.proofs.Outcome.{if-done, if-refused}
-use Rattle.lane.specs.Record.{idle, finished, opened, idled}
+use Rattle.lane.specs.Record.{idle, finished, idleLane, opened}
 use Rattle.bench.specs.declared.Bench.{Bench}
 use Rattle.bench.specs.Turning.{laneCount, laneAt, turnedBy, servedBy}
 use Rattle.bench.specs.Calls.{put, answered, openOf, turnOf, takeOf, closeOf}
@@ -78,7 +78,7 @@ pub record TakeDone (b : Bench) (lane : ℕ) (out : List ℕ) : Type 0 where
   pub lane-lt : lane < laneCount
   pub was-finished : laneAt (b .lanes) lane .phase ≡ finished
   pub out-long : length out ≡ 16
-  pub left : leaves b (taking lane out) ≡ put b lane (idled (laneAt (b .lanes) lane))
+  pub left : leaves b (taking lane out) ≡ put b lane idleLane
   pub none : serves b (taking lane out) ≡ []
 
 pub takes : (b : Bench) (lane : ℕ) (out : List ℕ) → codeOf b (taking lane out) ≡ 0 → TakeDone b lane out
@@ -97,7 +97,7 @@ takes b lane out e =
 pub record CloseDone (b : Bench) (lane : ℕ) : Type 0 where
   pub sound : Sound b
   pub lane-lt : lane < laneCount
-  pub left : leaves b (closing lane) ≡ put b lane (idled (laneAt (b .lanes) lane))
+  pub left : leaves b (closing lane) ≡ put b lane idleLane
   pub none : serves b (closing lane) ≡ []
 
 pub closings : (b : Bench) (lane : ℕ) → codeOf b (closing lane) ≡ 0 → CloseDone b lane

@@ -15,7 +15,7 @@ use Rattle.published.specs.Bytes.{toBytes, Bytes}
 use Rattle.published.proofs.Gift128.{block-lt}
 use Rattle.primitives.specs.Packed.{blockOf}
 use Rattle.lane.specs.declared.Lane.{Lane}
-use Rattle.lane.specs.Record.{idle, running, finished, soundLane, soundCount, opened, lacks, idleWith, freshLane}
+use Rattle.lane.specs.Record.{idle, running, finished, idleLane, everything, allZero, soundLane, opened, lacks}
 use Rattle.lane.proofs.Records.{finished-count, sound-count, eight-finished, yielded-bytes}
 use Rattle.bench.specs.declared.Bench.{Bench}
 use Rattle.bench.specs.Turning.{laneCount, laneAt}
@@ -34,15 +34,15 @@ use Rattle.bench_history.proofs.Quintuples.{reach, yields}
 -- ---- histories
 
 fresh-sound : Sound freshBench
-unfolding freshBench laneCount soundBench allSound idleWith soundLane soundCount
+unfolding freshBench laneCount soundBench allSound soundLane everything allZero idleLane
 fresh-sound = is-sound freshBench refl
 
 -- (the record past the end is idle, too)
 fresh-idle : (n : ℕ) → laneAt (freshBench .lanes) n .phase ≡ idle
-unfolding freshBench idleWith
+unfolding freshBench idleLane
 fresh-idle n = all laneCount n
   where
-    all : (k n : ℕ) → laneAt (replicate k freshLane) n .phase ≡ idle
+    all : (k n : ℕ) → laneAt (replicate k idleLane) n .phase ≡ idle
     all zero n = refl
     all (suc k) zero = refl
     all (suc k) (suc n) = all k n
@@ -56,7 +56,7 @@ run-sound (c ∷ cs) b s = run-sound cs (leaves b c) (sound-leaves b c s)
 pub ever-sound : (cs : List Call) → soundBench (run freshBench cs) ≡ true
 ever-sound cs = says-sound (run freshBench cs) (run-sound cs freshBench fresh-sound)
 
-run-append : (cs ds : List Call) (b : Bench) → run b (cs ++ ds) ≡ run (run b cs) ds
+pub run-append : (cs ds : List Call) (b : Bench) → run b (cs ++ ds) ≡ run (run b cs) ds
 unfolding run
 run-append [] ds b = refl
 run-append (c ∷ cs) ds b = run-append cs ds (leaves b c)
@@ -218,7 +218,7 @@ Busy n b = laneAt (b .lanes) n .phase ≢ idle
 
 -- a lane that is busy after some calls was busy before them and kept, or was opened in them and kept since
 split : (n : ℕ) (cs : List Call) (b : Bench) → Sound b → Busy n (run b cs) → (Busy n b × (never (releases n) b cs ≡ true)) ⊎ Since n b cs
-unfolding run never
+unfolding run never idleLane
 split n [] b s busy = inl (busy, refl)
 split n (c ∷ cs) b s busy = ⊎-elim (λ h. now (touch n b c) (h .0) (h .1)) (λ h. inr (earlier h)) (split n cs (leaves b c) (sound-leaves b c s) busy)
   where
@@ -252,7 +252,7 @@ split n (c ∷ cs) b s busy = ⊎-elim (λ h. now (touch n b c) (h .0) (h .1)) (
           accepted = rw (h .call) at (h .accepted);
           kept = rw (h .call) at k;
         })
-    now (leaving h) busy k = absurd (busy (h .idle-now))
+    now (leaving h) busy k = absurd (busy (ap (λ (l : Lane). l .phase) (h .wiped)))
     now (serving asked e l z) busy k = inl (turns-wake-none n asked b s (rw e at busy), more z k)
 
 -- every lane of a history that is not idle is held under an accepted opening

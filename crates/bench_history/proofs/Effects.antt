@@ -11,7 +11,7 @@ use lib.ListN.{length, replicate}
 use borrow.Author.Tests.{eqb-false}
 use Rattle.answers.proofs.Outcome.{if-done, if-refused}
 use Rattle.lane.specs.declared.Lane.{Lane}
-use Rattle.lane.specs.Record.{opened, lacks, idled}
+use Rattle.lane.specs.Record.{idleLane, opened, lacks}
 use Rattle.bench.specs.declared.Bench.{Bench}
 use Rattle.bench.specs.Turning.{laneAt, chosen, anyRuns, turned, turnedBy, servedBy, total}
 use Rattle.bench.specs.Orders.{turnCode}
@@ -48,8 +48,8 @@ does : (b : Bench) (c : Call) → codeOf b c ≡ 0 → Does b c
 unfolding names asks
 does b (opening lane direction key block) e = puts lane (opened direction key block) (opens b lane direction key block e .left) (λ n. refl)
 does b (turning asked) e = makes (turns b asked e .left) (λ n. refl)
-does b (taking lane out) e = puts lane (idled (laneAt (b .lanes) lane)) (takes b lane out e .left) (λ n. refl)
-does b (closing lane) e = puts lane (idled (laneAt (b .lanes) lane)) (closings b lane e .left) (λ n. refl)
+does b (taking lane out) e = puts lane idleLane (takes b lane out e .left) (λ n. refl)
+does b (closing lane) e = puts lane idleLane (closings b lane e .left) (λ n. refl)
 
 done-frame : (b : Bench) (c : Call) → Does b c → Frame b c
 unfolding turnedBy

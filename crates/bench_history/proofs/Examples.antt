@@ -3,7 +3,7 @@ use mathlib.Core.Path.{_≡_, refl}
 use mathlib.Core.List.{List, [], _∷_, _++_, map}
 use Prim.Native.Nat.{ℕ, _*_}
 use lib.ListN.{length, take, replicate}
-use Rattle.lane.specs.Record.{soundCount, soundLane, idleWith, opened, served, lacks}
+use Rattle.lane.specs.Record.{idleLane, everything, allZero, soundCount, soundLane, opened, served, lacks}
 use Rattle.bench.specs.declared.Bench.{Bench}
 use Rattle.bench.specs.Turning.{laneCount, runs, after, seek, chosen, anyRuns, turned, turnedBy, servedBy, total}
 use Rattle.bench.specs.Orders.{openCode, turnCode, takeCode, closeCode}
@@ -56,7 +56,7 @@ examples :
     × (numbers freshBench (taking 4 (bytes 16) ∷ closing 4 ∷ closing 3 ∷ []) ≡ 5 ∷ 5 ∷ 0 ∷ [])
     × (numbers astray (encrypts 4 ∷ turning 1025 ∷ taking 4 [] ∷ closing 0 ∷ []) ≡ 10 ∷ 10 ∷ 10 ∷ 10 ∷ [])
 unfolding
-    bytes encrypts decrypts four phases counts numbers astray soundCount soundLane idleWith opened served laneCount runs after seek chosen anyRuns turned turnedBy servedBy lacks total
+    bytes encrypts decrypts four phases counts numbers astray soundCount soundLane everything allZero idleLane opened served laneCount runs after seek chosen anyRuns turned turnedBy servedBy lacks total
     freshBench allSound soundBench put answered openCode openOf turnCode turnOf takeCode takeOf closeCode closeOf answerTo asks serves run log
 examples = (refl, refl, refl, refl, refl, refl, refl, refl, refl, refl, refl, refl, refl, refl, refl)
 
@@ -74,7 +74,7 @@ fourth =
 
 reached-by-one : Accepted fourth × Unclosed fourth × Kept fourth × (length (made fourth) ≡ 32) × (times 3 (take 31 (made fourth)) ≡ 7) × (own fourth ≡ 8)
 unfolding
-    bytes encrypts decrypts soundCount soundLane idleWith opened served laneCount runs after seek chosen anyRuns turned turnedBy servedBy lacks total
+    bytes encrypts decrypts soundCount soundLane everything allZero idleLane opened served laneCount runs after seek chosen anyRuns turned turnedBy servedBy lacks total
     freshBench allSound soundBench put answered openCode openOf turnCode turnOf takeCode takeOf closeCode closeOf answerTo asks serves run log
     fourth times never closes releases
 reached-by-one = (refl, refl, refl, refl, refl, refl)

@@ -8,3 +8,4 @@ pub mod Effects
 pub mod Demand
 pub mod OneOutcome
 mod Examples
+pub mod Wiped

@@ -9,7 +9,8 @@ use lib.Dec.{eqb, leb}
 use borrow.Author.Tests.{eq-eqb, ne-eqb, le-leb}
 use Rattle.bits.proofs.Truth.{together}
 use Rattle.lane.specs.declared.Lane.{Lane}
-use Rattle.lane.specs.Record.{idle, finished, soundLane, soundCount, idleWith, opened, idled}
+use Rattle.lane.specs.Record.{idle, finished, soundLane, soundCount, everything, allZero, idleLane, opened}
+use Rattle.lane.proofs.Records.{idle-sound}
 use Rattle.bench.specs.declared.Bench.{Bench}
 use Rattle.bench.specs.Turning.{laneCount, laneAt, turnedBy, servedBy}
 use Rattle.bench.specs.Calls.{put, takeOf, closeOf}
@@ -21,15 +22,11 @@ use Rattle.bench_history.proofs.Accepted.{refused-leaves, refused-serve
 -- ---- soundness
 
 opened-sound : (direction : ℕ) (key block : List ℕ) → direction ≤ 1 → soundLane (opened direction key block) ≡ true
-unfolding soundLane soundCount opened
+unfolding soundLane soundCount everything allZero opened
 opened-sound direction key block h = together (leb direction 1) true (le-leb direction 1 h) refl
 
-idled-sound : (l : Lane) → soundLane (idled l) ≡ true
-unfolding soundLane soundCount idleWith
-idled-sound l = refl
-
-sound-idled : (b : Bench) (i : ℕ) → Sound b → i < laneCount → Sound (put b i (idled (laneAt (b .lanes) i)))
-sound-idled b i s h = sound-put b i (idled (laneAt (b .lanes) i)) s h (idled-sound (laneAt (b .lanes) i))
+sound-idled : (b : Bench) (i : ℕ) → Sound b → i < laneCount → Sound (put b i idleLane)
+sound-idled b i s h = sound-put b i idleLane s h idle-sound
 
 done-sound : (b : Bench) (c : Call) → codeOf b c ≡ 0 → Sound (leaves b c)
 done-sound b (opening lane direction key block) e =
@@ -81,7 +78,7 @@ pub record Entered (n : ℕ) (b : Bench) (c : Call) : Type 0 where
 pub record Left (n : ℕ) (b : Bench) (c : Call) : Type 0 where
   pub released : releases n b c ≡ true
   pub how : (closes n b c ≡ true) ⊎ (laneAt (b .lanes) n .phase ≡ finished)
-  pub idle-now : laneAt (leaves b c .lanes) n .phase ≡ idle
+  pub wiped : laneAt (leaves b c .lanes) n ≡ idleLane
 
 pub data Touch (n : ℕ) (b : Bench) (c : Call) : Type 0 where
   same : Same n b c → Touch n b c
@@ -110,10 +107,6 @@ refused-keeps n b (closing lane) ne = rw (ne-eqb (closeOf b lane .code) 0 ne) (a
 other-keeps : (n lane : ℕ) (t : Bool) → n ≢ lane → eqb lane n && t ≡ false
 other-keeps n lane t ne = rw (ne-eqb lane n (λ e. ne (sym e)))
 
-idled-here : (b : Bench) (i : ℕ) → Sound b → i < laneCount → laneAt (put b i (idled (laneAt (b .lanes) i)) .lanes) i .phase ≡ idle
-unfolding idleWith
-idled-here b i s h = ap (λ (l : Lane). l .phase) (put-here b i (idled (laneAt (b .lanes) i)) s h)
-
 touch-done : (n : ℕ) (b : Bench) (c : Call) → codeOf b c ≡ 0 → Touch n b c
 unfolding releases closes answerTo
 touch-done n b (opening lane direction key block) e =
@@ -129,9 +122,9 @@ touch-done n b (taking lane out) e =
       | yes p ↦ left (record {
         released = together (eqb lane n) _ (eq-eqb lane n (sym p)) (eq-eqb _ 0 e);
         how = inr (rw p (o .was-finished));
-        idle-now = rw (o .left, p) (idled-here b lane (o .sound) (o .lane-lt));
+        wiped = rw (o .left, p) (put-here b lane idleLane (o .sound) (o .lane-lt));
       })
-      | no ne ↦ elsewhere n b (taking lane out) lane (idled (laneAt (b .lanes) lane)) (o .left) (o .none) (other-keeps n lane _ ne) ne
+      | no ne ↦ elsewhere n b (taking lane out) lane idleLane (o .left) (o .none) (other-keeps n lane _ ne) ne
     ]
 touch-done n b (closing lane) e =
     let o = closings b lane e in
@@ -139,9 +132,9 @@ touch-done n b (closing lane) e =
       | yes p ↦ left (record {
         released = together (eqb lane n) _ (eq-eqb lane n (sym p)) (eq-eqb _ 0 e);
         how = inl (together (eqb lane n) _ (eq-eqb lane n (sym p)) (eq-eqb _ 0 e));
-        idle-now = rw (o .left, p) (idled-here b lane (o .sound) (o .lane-lt));
+        wiped = rw (o .left, p) (put-here b lane idleLane (o .sound) (o .lane-lt));
       })
-      | no ne ↦ elsewhere n b (closing lane) lane (idled (laneAt (b .lanes) lane)) (o .left) (o .none) (other-keeps n lane _ ne) ne
+      | no ne ↦ elsewhere n b (closing lane) lane idleLane (o .left) (o .none) (other-keeps n lane _ ne) ne
     ]
 
 pub touch : (n : ℕ) (b : Bench) (c : Call) → Touch n b c

@@ -70,7 +70,13 @@ names n (turning asked) = true
 names n (taking lane out) = eqb lane n
 names n (closing lane) = eqb lane n
 
--- whether a call closes lane n; whether it takes from it or closes it
+-- whether a call opens lane n; whether it closes it; whether it takes from it or closes it
+unfoldable pub enters : ℕ → Bench → Call → Bool
+enters n b (opening lane direction key block) = eqb lane n && eqb (openOf b lane direction key block .code) DONE
+enters n b (turning asked) = false
+enters n b (taking lane out) = false
+enters n b (closing lane) = false
+
 unfoldable pub closes : ℕ → Bench → Call → Bool
 closes n b (opening lane direction key block) = false
 closes n b (turning asked) = false

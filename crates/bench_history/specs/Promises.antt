@@ -12,11 +12,11 @@ use Rattle.published.specs.Gift128.{pairsOf, rounds128, unrounds128, encrypted,
 use Rattle.primitives.specs.Packed.{stateOf}
 use Rattle.key_schedule.specs.Expand.{expanded}
 use Rattle.lane.specs.declared.Lane.{Lane}
-use Rattle.lane.specs.Record.{running, finished, lacks}
+use Rattle.lane.specs.Record.{idle, running, finished, lacks}
 use Rattle.bench.specs.declared.Bench.{Bench}
 use Rattle.bench.specs.Turning.{laneCount, laneAt, total}
 use Rattle.bench.specs.Calls.{freshBench, turnOf, takeOf, takenBytes}
-use Rattle.bench_history.specs.History.{Call, opening, turning, taking, codeOf, leaves, tells, asks, serves, run, log, times, lastOf, closes, releases, never, names, servedTimes}
+use Rattle.bench_history.specs.History.{Call, opening, turning, taking, codeOf, leaves, tells, asks, serves, run, log, times, lastOf, enters, closes, releases, never, names, servedTimes}
 
 -- ---- what a lane's record is to be
 
@@ -132,3 +132,22 @@ pub record Refused (b : Bench) (c : Call) : Type 0 where
 pub record Frame (b : Bench) (c : Call) : Type 0 where
   pub lanes : (n : ℕ) → names n c ≡ false → laneAt (leaves b c .lanes) n ≡ laneAt (b .lanes) n
   pub last : asks c ≡ 0 → leaves b c .last ≡ b .last
+
+-- ---- what is wiped
+
+-- each record has eighty round words, as its type says
+abbrev pub Eighty : Bench → Type 0
+Eighty b = (n : ℕ) → n < laneCount → length (laneAt (b .lanes) n .words) ≡ 80
+
+-- every lane is idle
+abbrev pub AllIdle : Bench → Type 0
+AllIdle b = (n : ℕ) → n < laneCount → laneAt (b .lanes) n .phase ≡ idle
+
+-- Of a lane in a history: some call took from it or closed it, and none has opened it since.
+pub record Released (cs : List Call) (n : ℕ) : Type 0 where
+  pub before : List Call
+  pub by : Call
+  pub since : List Call
+  pub whole : before ++ by ∷ since ≡ cs
+  pub released : releases n (run freshBench before) by ≡ true
+  pub unopened : never (enters n) (leaves (run freshBench before) by) since ≡ true

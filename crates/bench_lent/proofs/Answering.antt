@@ -6,7 +6,7 @@ use mathlib.Core.Logic.{_≢_}
 use Prim.Native.Nat.{ℕ, _≤_, _<_}
 use lib.ListN.{length, set}
 use Rattle.lane.specs.declared.Lane.{Lane}
-use Rattle.lane.specs.Record.{opened, yielded, idled}
+use Rattle.lane.specs.Record.{idleLane, opened, yielded}
 use Rattle.bench.specs.declared.Bench.{Bench}
 use Rattle.bench.specs.declared.Answer.{Answer}
 use Rattle.bench.specs.Turning.{laneCount, laneAt}
@@ -17,8 +17,7 @@ use Rattle.bench.proofs.Soundness.{is-sound}
 use Rattle.bench.proofs.Answered.{answer, open-refused, open-done, take-refused, take-done, close-refused, close-done}
 use Rattle.bench_lent.specs.declared.Seen.{Seen}
 use Rattle.bench_lent.specs.Lent.{benchOf, Leaves, Opens, Takes, Closes}
-use Rattle.bench_lent.specs.Inner.{Sees, renewed}
-use Rattle.bench_lent.proofs.Effects.{idled-renewed}
+use Rattle.bench_lent.specs.Inner.{Sees}
 
 -- of records that are not sound a number does not depend on the phase
 open-phase : (s : Bool) (lane p p′ direction key block : ℕ) → (s ≡ true → p ≡ p′) → openCode s lane p direction key block ≡ openCode s lane p′ direction key block
@@ -42,10 +41,9 @@ module _ (ys : List Lane) (last lane : ℕ) (r : Seen) (sees : Sees ys last lane
   inside ok h = subst (λ (k : ℕ). lane < k) (sym (is-sound b (sym (sees .0) ∙ ok) .size)) h
 
   -- the lane idle, as it was stored
-  idle-now : {l m : Lane} {zs : List Lane} → l ≡ laneAt ys lane → m ≡ idled l → zs ≡ set ys lane (renewed (laneAt ys lane) m) → benchOf zs last ≡ put b lane (idled (laneAt ys lane))
+  idle-now : {m : Lane} {zs : List Lane} → m ≡ idleLane → zs ≡ set ys lane m → benchOf zs last ≡ put b lane idleLane
   unfolding put
-  idle-now e f g =
-      ap (λ (zs : List Lane). benchOf zs last) (g ∙ ap (λ (k : Lane). set ys lane (renewed (laneAt ys lane) k)) (f ∙ ap idled e) ∙ ap (set ys lane) (idled-renewed (laneAt ys lane)))
+  idle-now f g = ap (λ (zs : List Lane). benchOf zs last) (g ∙ ap (set ys lane) f)
 
   module _ (told : c ≡ closeCode (r .sound) lane) where
     pub close-in : c ≡ 0 → lane < length ys
@@ -54,8 +52,8 @@ module _ (ys : List Lane) (last lane : ℕ) (r : Seen) (sees : Sees ys last lane
     pub close-no : c ≢ 0 → Closes ys last lane c ys
     close-no ne = leaves (close-refused b (sees .0) lane told ne)
 
-    pub close-yes : c ≡ 0 → {l m : Lane} {zs : List Lane} → l ≡ laneAt ys lane → m ≡ idled l → zs ≡ set ys lane (renewed (laneAt ys lane) m) → Closes ys last lane c zs
-    close-yes z e f g = leaves (close-done b (sees .0) lane told z (idle-now e f g))
+    pub close-yes : c ≡ 0 → {m : Lane} {zs : List Lane} → m ≡ idleLane → zs ≡ set ys lane m → Closes ys last lane c zs
+    close-yes z f g = leaves (close-done b (sees .0) lane told z (idle-now f g))
 
   module _ (out : List ℕ) (told : c ≡ takeCode (r .sound) lane (r .phase) (length out)) where
     take-told : c ≡ takeCode (r .sound) lane (laneAt ys lane .phase) (length out)
@@ -67,8 +65,8 @@ module _ (ys : List Lane) (last lane : ℕ) (r : Seen) (sees : Sees ys last lane
     pub take-no : c ≢ 0 → Takes ys last lane out c ys out
     take-no ne = let p = take-refused b (sees .0) lane out refl take-told ne in (leaves (p .0), p .1)
 
-    pub take-yes : c ≡ 0 → {l m : Lane} {zs : List Lane} {bytes : List ℕ} → l ≡ laneAt ys lane → bytes ≡ yielded l out → m ≡ idled l → zs ≡ set ys lane (renewed (laneAt ys lane) m) → Takes ys last lane out c zs bytes
-    take-yes z e y f g = let p = take-done b (sees .0) lane out refl take-told z (idle-now e f g) (y ∙ ap (λ (k : Lane). yielded k out) e) in (leaves (p .0), p .1)
+    pub take-yes : c ≡ 0 → {l m : Lane} {zs : List Lane} {bytes : List ℕ} → l ≡ laneAt ys lane → bytes ≡ yielded l out → m ≡ idleLane → zs ≡ set ys lane m → Takes ys last lane out c zs bytes
+    take-yes z e y f g = let p = take-done b (sees .0) lane out refl take-told z (idle-now f g) (y ∙ ap (λ (k : Lane). yielded k out) e) in (leaves (p .0), p .1)
 
   module _ (direction : ℕ) (key block : List ℕ) (told : c ≡ openCode (r .sound) lane (r .phase) direction (length key) (length block)) where
     open-told : c ≡ openCode (r .sound) lane (laneAt ys lane .phase) direction (length key) (length block)

@@ -6,7 +6,7 @@ use Prim.Native.Nat.{ℕ, _≤_, _<_}
 use lib.Dec.{ltb}
 use lib.ListN.{set}
 use Rattle.lane.specs.declared.Lane.{Lane}
-use Rattle.lane.specs.Record.{served, idleWith, idled}
+use Rattle.lane.specs.Record.{served}
 use Rattle.lane.proofs.Records.{next}
 use Rattle.bench.specs.declared.Bench.{Bench}
 use Rattle.bench.specs.Turning.{laneCount, laneAt, chosen, turned}
@@ -21,10 +21,6 @@ served-renewed l = go (ltb (l .count) 8)
     go : (t : Bool) → renewed l (cond t (next l) l) ≡ cond t (next l) l
     go true = refl
     go false = refl
-
-pub idled-renewed : (l : Lane) → renewed l (idled l) ≡ idled l
-unfolding idleWith
-idled-renewed l = refl
 
 module _ (ys : List Lane) (last n : ℕ) (is : n ≡ chosen (benchOf ys last)) where
   abbrev b : Bench

@@ -3,7 +3,7 @@ use mathlib.Core.Path.{_≡_}
 use mathlib.Core.List.{[], _∷_}
 use Prim.Native.Nat.{_+_, _<_, _^_}
 use lib.ListN.{length, set}
-use Rattle.lane.specs.Record.{served, idled}
+use Rattle.lane.specs.Record.{idleLane, served}
 use Rattle.bench.specs.Turning.{laneCount, laneAt, after, seek, chosen, turned}
 use Rattle.bench.specs.Orders.{openCode, takeCode, closeCode}
 use Rattle.bench_lent.specs.Lent.{benchOf, Serves, Closes}
@@ -21,8 +21,8 @@ After = record { params = size ∷ []; result = size; Asks = λ a. freely; Right
 abbrev pub Served : Function
 Served = record { params = lane ∷ []; result = lane; Asks = λ a. freely; Right = λ a r. r ≡ served (a .0) }
 
-abbrev pub Idled : Function
-Idled = record { params = lane ∷ []; result = lane; Asks = λ a. freely; Right = λ a r. r ≡ idled (a .0) }
+abbrev pub IdleLane : Function
+IdleLane = record { params = []; result = lane; Asks = λ a. freely; Right = λ a r. r ≡ idleLane }
 
 abbrev pub OpenCode : Function
 OpenCode = record {

@@ -10,7 +10,7 @@ use bench::orders::turn_code;
 use lane::IDLE;
 use lane::Lane;
 use lane::RUNNING;
-use lane::idled;
+use lane::idle_lane;
 use lane::opened;
 use lane::served;
 use lane::sound_lane;
@@ -259,7 +259,7 @@ pub fn take(lanes: &mut [Lane], last: u32, lane: u32, out: &mut [u8]) -> u32
     let i = lane as usize;
     let l = at(lanes, i);
     yielded(l, out);
-    renew(lanes, i, idled(l));
+    put(lanes, i, idle_lane());
     code
 }
 
@@ -271,8 +271,6 @@ pub fn close(lanes: &mut [Lane], last: u32, lane: u32) -> u32
     if code != DONE {
         return code;
     }
-    let i = lane as usize;
-    let l = at(lanes, i);
-    renew(lanes, i, idled(l));
+    put(lanes, lane as usize, idle_lane());
     code
 }

@@ -17,7 +17,7 @@ two = zero-lt-suc 1
 abbrev isOne : ℕ → Bool
 isOne d = eqb d 1
 
-isOne-one : (b : Bool) → isOne (one b) ≡ b
+pub isOne-one : (b : Bool) → eqb (one b) 1 ≡ b
 isOne-one false = refl
 isOne-one true = refl
 

@@ -69,9 +69,6 @@ module _ (b : ℕ) (pos : zero < b) where
   pub number-digit : (n x : ℕ) → x < b ^ n → number b n (digit b x) ≡ x
   number-digit n x h = number-mod n x ∙ mod-eq-of-lt h
 
-  pub digit-ext : (n x y : ℕ) → x < b ^ n → y < b ^ n → ((i : ℕ) → i < n → digit b x i ≡ digit b y i) → x ≡ y
-  digit-ext n x y hx hy e = sym (number-digit n x hx) ∙ number-cong b n (digit b x) (digit b y) e ∙ number-digit n y hy
-
   -- past the end there are only zeros
   pub digit-out : (n x i : ℕ) → x < b ^ n → n ≤ i → digit b x i ≡ 0
   unfolding digit

@@ -7,8 +7,8 @@ use lib.Dec.{eqb}
 use lib.ListN.{length}
 use borrow.Author.Tests.{eqb-true}
 use Rattle.answers.proofs.Outcome.{if-done}
+use Rattle.published.specs.Calls.{blockCode, keyCode}
 use Rattle.published.specs.Gift128.{encrypted}
-use Rattle.gift128.specs.Calls.{keyCode, blockCode}
 use Rattle.cmac.specs.Standard.{cmac}
 use Rattle.cmac.specs.Calls.{same, Checks}
 use Rattle.cmac.proofs.Strings.{same-refl, same-only, false-not-true}

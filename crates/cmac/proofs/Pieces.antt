@@ -3,12 +3,12 @@ use mathlib.Core.Path.{_≡_, refl, sym, ap, ap₂, _∙_, fun-ext}
 use mathlib.Core.Bool.{Bool, true, false, cond}
 use mathlib.Core.List.{List, [], _∷_, _++_, append-assoc, append-nil}
 use mathlib.Core.Logic.{_≢_}
-use Prim.Native.Nat.{ℕ, zero, suc, _+_, _-_, _*_, _/_, _≤_, _<_}
+use Prim.Native.Nat.{ℕ, suc, _+_, _-_, _*_, _/_, _≤_, _<_}
 use native.Mathlib.Nat.{le-of-eq}
 use native.Mathlib.Omega.{arith}
 use lib.Dec.{eqb, leb}
-use lib.ListN.{length, take, drop, replicate, length-append, length-take, length-drop}
-use lib.Seq.{take-all, take-at, drop-at, drop-drop, drop-append-le, drop-append-add, take-append-seam}
+use lib.ListN.{length, take, drop, replicate, length-append, length-drop}
+use lib.Seq.{take-all, take-at, drop-at, drop-drop, drop-append-le, take-append-seam}
 use borrow.Author.Tests.{leb-true, leb-false, le-leb, lt-leb, eqb-true, eq-eqb}
 use Rattle.answers.specs.Numbers.{DONE, BAD_KEY_LENGTH, BAD_BLOCK_LENGTH, BAD_STATE}
 use Rattle.answers.specs.Order.{unless, ifDone}
@@ -16,10 +16,11 @@ use Rattle.answers.proofs.Passed.{passed}
 use Rattle.answers.proofs.Outcome.{if-done, if-refused}
 use Rattle.published.specs.Bytes.{readBlock, writeBlock}
 use Rattle.published.specs.Rounds.{Pair}
+use Rattle.published.specs.Calls.{blockCode, keyCode}
 use Rattle.published.specs.Gift128.{rounds128, encrypted}
 use Rattle.key_schedule.specs.Expand.{expanded}
 use Rattle.key_schedule.proofs.Expanded.{pairs-of-expanded}
-use Rattle.gift128.specs.Calls.{blockCode, keyCode, newCode, encryptedBy}
+use Rattle.gift128.specs.Calls.{newCode, encryptedBy}
 use Rattle.cmac.specs.Standard.{_⊕_, zeroBlock, blockCount, before, blocks, past, lastBlock, chained, cmac}
 use Rattle.cmac.specs.Calls.{pieceCode, tagCode, startedBy, heldBy, kept, fed, tagOf, joined, FedBy, none, more, TagsWhole, Starts, Feeds, TagsState}
 use Rattle.cmac.specs.Inner.{Fills}
@@ -140,37 +141,37 @@ held-kept m = take-append-seam m (replicate (16 - length m) 0)
 
 -- what is left of a message, with more after it
 module _ (ciph : List ℕ → List ℕ) (c m q : List ℕ) where
-  abbrev n : ℕ
-  n = before m
+  abbrev gone : ℕ
+  gone = before m
 
   abbrev rest : List ℕ
-  rest = past n m ++ q
+  rest = past gone m ++ q
 
-  cut : before (m ++ q) ≡ n + before rest
+  cut : before (m ++ q) ≡ gone + before rest
   cut =
-      before-is (m ++ q) ∙ ap (λ (k : ℕ). (k - 1) / 16) (length-append m q) ∙ parts (length m) (length q) n (before-is m)
-      ∙ ap (λ (k : ℕ). n + (k - 1) / 16) (sym (length-append (past n m) q ∙ ap (λ (x : ℕ). x + length q) (length-drop (16 * n) m)))
-      ∙ ap (λ (k : ℕ). n + k) (sym (before-is rest))
+      before-is (m ++ q) ∙ ap (λ (k : ℕ). (k - 1) / 16) (length-append m q) ∙ parts (length m) (length q) gone (before-is m)
+      ∙ ap (λ (k : ℕ). gone + (k - 1) / 16) (sym (length-append (past gone m) q ∙ ap (λ (x : ℕ). x + length q) (length-drop (16 * gone) m)))
+      ∙ ap (λ (k : ℕ). gone + k) (sym (before-is rest))
     where
       parts : (i j k : ℕ) → k ≡ (i - 1) / 16 → (i + j - 1) / 16 ≡ k + (i - 16 * k + j - 1) / 16
       parts i j k e = omega arith
 
-  past-front : past n (m ++ q) ≡ rest
-  past-front = drop-append-le (16 * n) m q (past-fits m)
+  past-front : past gone (m ++ q) ≡ rest
+  past-front = drop-append-le (16 * gone) m q (past-fits m)
 
   past-cut : past (before rest) rest ≡ past (before (m ++ q)) (m ++ q)
   past-cut =
-      ap (past (before rest)) (sym past-front) ∙ drop-drop (16 * before rest) (16 * n) (m ++ q) ∙ ap (λ (k : ℕ). drop k (m ++ q)) (spread n (before rest))
+      ap (past (before rest)) (sym past-front) ∙ drop-drop (16 * before rest) (16 * gone) (m ++ q) ∙ ap (λ (k : ℕ). drop k (m ++ q)) (spread gone (before rest))
       ∙ ap (λ (k : ℕ). past k (m ++ q)) (sym cut)
     where
       spread : (i j : ℕ) → 16 * i + 16 * j ≡ 16 * (i + j)
       spread i j = omega arith
 
-  chained-cut : chained ciph (chained ciph c (blocks n m)) (blocks (before rest) rest) ≡ chained ciph c (blocks (before (m ++ q)) (m ++ q))
+  chained-cut : chained ciph (chained ciph c (blocks gone m)) (blocks (before rest) rest) ≡ chained ciph c (blocks (before (m ++ q)) (m ++ q))
   chained-cut =
-      sym (chained-append ciph c (blocks n m) (blocks (before rest) rest))
-      ∙ ap₂ (λ (x y : List (List ℕ)). chained ciph c (x ++ y)) (sym (blocks-front n m q (past-fits m))) (ap (blocks (before rest)) (sym past-front))
-      ∙ ap (chained ciph c) (sym (blocks-add n (before rest) (m ++ q)) ∙ ap (λ (k : ℕ). blocks k (m ++ q)) (sym cut))
+      sym (chained-append ciph c (blocks gone m) (blocks (before rest) rest))
+      ∙ ap₂ (λ (x y : List (List ℕ)). chained ciph c (x ++ y)) (sym (blocks-front gone m q (past-fits m))) (ap (blocks (before rest)) (sym past-front))
+      ∙ ap (chained ciph c) (sym (blocks-add gone (before rest) (m ++ q)) ∙ ap (λ (k : ℕ). blocks k (m ++ q)) (sym cut))
 
 -- a state that bytes l were fed to after its chain c
 abbrev filledWith : List ℕ → List ℕ → List ℕ → Mac

@@ -7,9 +7,10 @@ use lib.ListN.{length, take, replicate}
 use Rattle.answers.specs.Numbers.{DONE, BAD_STATE}
 use Rattle.answers.specs.Order.{unless}
 use Rattle.answers.specs.Outcome.{Gives}
+use Rattle.published.specs.Calls.{blockCode, keyCode}
 use Rattle.published.specs.Gift128.{encrypted}
 use Rattle.key_schedule.specs.Expand.{expanded}
-use Rattle.gift128.specs.Calls.{blockCode, keyCode, newCode, encryptedBy}
+use Rattle.gift128.specs.Calls.{newCode, encryptedBy}
 use Rattle.cmac.specs.Standard.{zeroBlock, before, blocks, past, lastBlock, chained, cmac}
 use Rattle.cmac.specs.declared.Mac.{Mac}
 

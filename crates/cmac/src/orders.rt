@@ -4,7 +4,7 @@ use answers::BAD_KEY_LENGTH;
 use answers::BAD_STATE;
 use answers::DONE;
 ghost use mathlib.Core.Path.{_≡_};
-ghost use Rattle.gift128.specs.Calls.{blockCode, keyCode};
+ghost use Rattle.published.specs.Calls.{blockCode, keyCode};
 ghost use Rattle.cmac.specs.Calls.{pieceCode, tagCode};
 
 // A tag that is lent: 2.

@@ -10,14 +10,8 @@ use Rattle.answers.specs.Numbers.{DONE, BAD_KEY_LENGTH, BAD_BLOCK_LENGTH, BAD_O
 use Rattle.answers.specs.Order.{unless}
 use Rattle.answers.specs.Outcome.{Gives}
 use Rattle.answers.proofs.Passed.{passed}
-use Rattle.gift128.specs.Calls.{blockCode, keyCode, wordsCode, manyCode}
-
-pub key-passed : (key block : ℕ) → keyCode key block ≡ 0 → (key ≡ 16) × (block ≡ 16)
-unfolding keyCode blockCode
-key-passed key block e =
-    let p1 = passed (eqb key 16) BAD_KEY_LENGTH _ refl e in
-    let p2 = passed (eqb block 16) BAD_BLOCK_LENGTH DONE refl (p1 .1) in
-    (eqb-true key 16 (p1 .0), eqb-true block 16 (p2 .0))
+use Rattle.published.specs.Calls.{blockCode}
+use Rattle.gift128.specs.Calls.{wordsCode, manyCode}
 
 pub words-passed : (words block : ℕ) → wordsCode words block ≡ 0 → (words ≡ 80) × (block ≡ 16)
 unfolding wordsCode blockCode

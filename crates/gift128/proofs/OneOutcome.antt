@@ -3,8 +3,9 @@ use mathlib.Core.List.{List}
 use Prim.Native.Nat.{ℕ}
 use Rattle.answers.specs.Outcome.{OneOutcome}
 use Rattle.answers.proofs.Outcome.{one-outcome}
+use Rattle.published.specs.Calls.{EncryptsByKey, DecryptsByKey}
 use Rattle.key_schedule.specs.Expand.{Expands}
-use Rattle.gift128.specs.Calls.{EncryptsByKey, DecryptsByKey, EncryptsByWords, DecryptsByWords, EncryptsBlocks, DecryptsBlocks, MakesOneRound, MakesCipher, EncryptsBlock, DecryptsBlock}
+use Rattle.gift128.specs.Calls.{EncryptsByWords, DecryptsByWords, EncryptsBlocks, DecryptsBlocks, MakesOneRound, MakesCipher, EncryptsBlock, DecryptsBlock}
 
 module _ (key words block input output : List ℕ) where
   pub precompute-rkeys : OneOutcome (Expands key words)

@@ -8,20 +8,13 @@ use Rattle.answers.specs.Order.{unless, ifDone}
 use Rattle.answers.specs.Outcome.{Gives}
 use Rattle.published.specs.Bytes.{readBlock, writeBlock}
 use Rattle.published.specs.Gift128.{pairsOf, rounds128, unrounds128, encrypted, decrypted}
+use Rattle.published.specs.Calls.{blockCode, keyCode}
 use Rattle.round_words.specs.Arranged.{pairsFrom}
 use Rattle.key_schedule.specs.Expand.{expanded}
 
 -- ---- the numbers, by the lengths of what is lent
 
--- one block by a `Gift128`: 2
-unfoldable pub blockCode : (block : ℕ) → ℕ
-blockCode block = unless (eqb block 16) BAD_BLOCK_LENGTH DONE
-
--- by a key: 1, 2
-unfoldable pub keyCode : (key block : ℕ) → ℕ
-keyCode key block = unless (eqb key 16) BAD_KEY_LENGTH (blockCode block)
-
--- by round words: 4, 2
+-- one block by round words: 4, 2 (by a key, and by a `Gift128`: `keyCode` and `blockCode` of the crate published)
 unfoldable pub wordsCode : (words block : ℕ) → ℕ
 wordsCode words block = unless (eqb words 80) BAD_WORD_COUNT (blockCode block)
 
@@ -59,12 +52,6 @@ unfoldable pub allBlocks : (List ℕ → List ℕ) → List ℕ → List ℕ
 allBlocks f input = eachBlock f (length input / 16) input
 
 -- ---- the promises: the number, and what the lent buffer holds at exit
-
-abbrev pub EncryptsByKey : (key block : List ℕ) → ℕ → List ℕ → Type 0
-EncryptsByKey key block = Gives (keyCode (length key) (length block)) (encrypted key block) block
-
-abbrev pub DecryptsByKey : (key block : List ℕ) → ℕ → List ℕ → Type 0
-DecryptsByKey key block = Gives (keyCode (length key) (length block)) (decrypted key block) block
 
 abbrev pub EncryptsByWords : (words block : List ℕ) → ℕ → List ℕ → Type 0
 EncryptsByWords words block = Gives (wordsCode (length words) (length block)) (encryptedBy words block) block

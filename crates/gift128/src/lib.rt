@@ -18,10 +18,11 @@ ghost use lib.ListN.{length};
 ghost use denote.Ref.{now};
 ghost use Rattle.answers.specs.Outcome.{Gives};
 ghost use Rattle.published.specs.Gift128.{rounds128, unrounds128};
+ghost use Rattle.published.specs.Calls.{keyCode, EncryptsByKey, DecryptsByKey};
 ghost use Rattle.primitives.specs.Packed.{blockOf, stateOf};
 ghost use Rattle.round_words.specs.Arranged.{pairsFrom};
-ghost use Rattle.gift128.specs.Calls.{keyCode, wordsCode, manyCode, allBlocks};
-ghost use Rattle.gift128.specs.Calls.{EncryptsByKey, DecryptsByKey, EncryptsByWords, DecryptsByWords, EncryptsBlocks, DecryptsBlocks};
+ghost use Rattle.gift128.specs.Calls.{wordsCode, manyCode, allBlocks};
+ghost use Rattle.gift128.specs.Calls.{EncryptsByWords, DecryptsByWords, EncryptsBlocks, DecryptsBlocks};
 ghost use Rattle.gift128.specs.Calls.{MakesOneRound, MakesCipher, EncryptsBlock, DecryptsBlock};
 ghost use Rattle.gift128.specs.Ways.{roundsBy, crossedBy, crossed};
 

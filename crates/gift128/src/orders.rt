@@ -6,7 +6,8 @@ use answers::BAD_OUTPUT_LENGTH;
 use answers::BAD_WORD_COUNT;
 use answers::DONE;
 ghost use mathlib.Core.Path.{_≡_};
-ghost use Rattle.gift128.specs.Calls.{blockCode, keyCode, wordsCode, manyCode};
+ghost use Rattle.published.specs.Calls.{blockCode, keyCode};
+ghost use Rattle.gift128.specs.Calls.{wordsCode, manyCode};
 
 // One block by a `Gift128`: 2.
 fn block_code(block: usize) -> u32

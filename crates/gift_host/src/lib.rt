@@ -8,14 +8,15 @@ use cmac::Started;
 use lane::Lane;
 ghost use mathlib.Core.Path.{_≡_};
 ghost use denote.Ref.{now};
+ghost use Rattle.published.specs.Calls.{EncryptsByKey, DecryptsByKey};
 ghost use Rattle.key_schedule.specs.Expand.{Expands};
-ghost use Rattle.gift128.specs.Calls.{EncryptsByKey, DecryptsByKey, EncryptsByWords, DecryptsByWords, EncryptsBlocks, DecryptsBlocks};
+ghost use Rattle.gift128.specs.Calls.{EncryptsByWords, DecryptsByWords, EncryptsBlocks, DecryptsBlocks};
 ghost use Rattle.cmac.specs.Calls.{TagsWhole, Checks, Starts, Feeds, TagsState};
 ghost use Rattle.bench_lent.specs.Lent.{Opens, Serves, Takes, Closes};
 ghost use Rattle.gift_host.specs.Edition.{edition};
 
 // The edition of records, arguments and counts that this library has. GIFT_HOST_EDITION in the header is the one that a host was compiled for.
-const EDITION: u32 = 1;
+const EDITION: u32 = 2;
 
 #[no_mangle]
 pub extern "C" fn gift_host_edition() -> u32
@@ -37,6 +38,21 @@ pub extern "C" fn gift_decrypt_by_key(key: &[u8], block: &mut [u8]) -> u32
     ensures { λ r. ⌜ DecryptsByKey (now (key .entry)) (now (block .entry)) r (now (block .exit)) ⌝ }
 {
     gift128::decrypt_by_key(key, block)
+}
+
+// The same by the plain engine, which is written to be read and not to be fast. Refusals: 1, 2.
+#[no_mangle]
+pub extern "C" fn gift_plain_encrypt_by_key(key: &[u8], block: &mut [u8]) -> u32
+    ensures { λ r. ⌜ EncryptsByKey (now (key .entry)) (now (block .entry)) r (now (block .exit)) ⌝ }
+{
+    plain::encrypt_by_key(key, block)
+}
+
+#[no_mangle]
+pub extern "C" fn gift_plain_decrypt_by_key(key: &[u8], block: &mut [u8]) -> u32
+    ensures { λ r. ⌜ DecryptsByKey (now (key .entry)) (now (block .entry)) r (now (block .exit)) ⌝ }
+{
+    plain::decrypt_by_key(key, block)
 }
 
 // One block by round words, any eighty, in place. Refusals: 4, 2.

@@ -1,2 +1,3 @@
 -- The laws, for the crates above.
+pub mod Zero
 pub mod Records

@@ -1,13 +1,14 @@
 -- What the crates above use of a record: its counts by its phase, what a turn of its own does to it, and what it holds just opened and yields in the end.
 use mathlib.Core.Path.{_≡_, refl, sym, ap, _∙_}
-use mathlib.Core.Bool.{true, false, cond, false≢true}
+use mathlib.Core.Bool.{Bool, true, false, cond, _&&_, _||_, and-false, or-false, false≢true}
 use mathlib.Core.List.{List}
+use mathlib.Core.Logic.{_≢_}
 use Prim.Native.Nat.{ℕ, zero, suc, _+_, _-_, _≤_, _<_}
-use native.Mathlib.Decide.{decLe}
+use native.Mathlib.Decide.{ℕ-discrete, decLe}
 use native.Mathlib.Omega.{arith}
 use lib.Dec.{eqb, leb, ltb}
 use lib.ListN.{length, replicate}
-use borrow.Author.Tests.{lt-ltb, le-ltb, le-leb, lt-leb, eq-eqb, eqb-true, eqb-false, leb-true}
+use borrow.Author.Tests.{lt-ltb, le-ltb, le-leb, lt-leb, eq-eqb, ne-eqb, eqb-true, eqb-false, leb-true}
 use Rattle.answers.specs.Order.{ifDone}
 use Rattle.bits.proofs.Computed.{cond-true}
 use Rattle.bits.proofs.Truth.{both, together, cond-either}
@@ -19,27 +20,60 @@ use Rattle.packing.proofs.Inverse.{packed-block}
 use Rattle.key_schedule.specs.Expand.{expanded}
 use Rattle.gift128.specs.Calls.{newCode}
 use Rattle.lane.specs.declared.Lane.{Lane}
-use Rattle.lane.specs.Record.{running, finished, idle, soundCount, soundLane, opened, advanced, served, lacks, yielded}
+use Rattle.lane.specs.Record.{running, finished, idle, idleLane, everything, allZero, soundCount, soundLane, opened, advanced, served, lacks, yielded}
+use Rattle.lane.proofs.Zero.{idle-is-zero}
+
+-- what makes a busy record sound
+pub busy-is : (l : Lane) → l .phase ≢ idle → soundLane l ≡ (leb (l .direction) 1 && soundCount (l .phase) (l .count))
+unfolding soundLane everything allZero
+busy-is l busy = rw (ne-eqb (l .phase) 0 busy)
+
+busy-sound : (l : Lane) → soundLane l ≡ true → l .phase ≢ idle → (leb (l .direction) 1 ≡ true) × (soundCount (l .phase) (l .count) ≡ true)
+busy-sound l s busy = both (leb (l .direction) 1) (soundCount (l .phase) (l .count)) (sym (busy-is l busy) ∙ s)
+
+-- and an idle one
+pub idle-is : (l : Lane) → l .phase ≡ idle → soundLane l ≡ allZero (everything l)
+unfolding soundLane soundCount
+idle-is l e =
+    ap (λ (t : Bool). allZero (everything l) || t) (ap (λ (p : ℕ). leb (l .direction) 1 && soundCount p (l .count)) e ∙ and-false (leb (l .direction) 1))
+    ∙ or-false (allZero (everything l))
+
+-- the idle lane is sound
+pub idle-sound : soundLane idleLane ≡ true
+unfolding idleLane
+idle-sound = idle-is idleLane refl ∙ idle-is-zero
 
 -- a lane with a running record that is sound has turns left
 pub running-count : (l : Lane) → soundLane l ≡ true → l .phase ≡ running → l .count < 8
-unfolding soundLane soundCount
+unfolding soundCount
 running-count l s e =
-    let h : leb (l .count) 7 ≡ true = rw e at (both (leb (l .direction) 1) (soundCount (l .phase) (l .count)) s .1) in
+    let h : leb (l .count) 7 ≡ true = rw e at (busy-sound l s (λ z. eqb-false 1 0 refl (sym e ∙ z)) .1) in
     omega (arith, leb-true (l .count) 7 h)
 
 pub finished-count : (l : Lane) → soundLane l ≡ true → l .phase ≡ finished → l .count ≡ 8
-unfolding soundLane soundCount
+unfolding soundCount
 finished-count l s e =
-    let h : eqb (l .count) 8 ≡ true = rw e at (both (leb (l .direction) 1) (soundCount (l .phase) (l .count)) s .1) in
+    let h : eqb (l .count) 8 ≡ true = rw e at (busy-sound l s (λ z. eqb-false 2 0 refl (sym e ∙ z)) .1) in
     eqb-true (l .count) 8 h
 
+-- an idle record has count 0
+idle-count : (l : Lane) → soundLane l ≡ true → l .phase ≡ idle → l .count ≡ 0
+unfolding everything allZero
+idle-count l s e =
+    let p1 = both (eqb (l .phase) 0) _ (sym (idle-is l e) ∙ s) in
+    let p2 = both (eqb (l .direction) 0) _ (p1 .1) in
+    eqb-true (l .count) 0 (both (eqb (l .count) 0) _ (p2 .1) .0)
+
 pub sound-count : (l : Lane) → soundLane l ≡ true → l .count ≤ 8
-unfolding soundLane soundCount
-sound-count l s = go (l .phase) (both (leb (l .direction) 1) (soundCount (l .phase) (l .count)) s .1)
+unfolding soundCount
+sound-count l s =
+    elim (ℕ-discrete (l .phase) idle) [
+      | yes e ↦ omega (arith, idle-count l s e)
+      | no ne ↦ go (l .phase) (busy-sound l s ne .1)
+    ]
   where
     go : (p : ℕ) → soundCount p (l .count) ≡ true → l .count ≤ 8
-    go zero e = omega (arith, eqb-true (l .count) 0 e)
+    go zero e = absurd (false≢true e)
     go (suc zero) e = omega (arith, leb-true (l .count) 7 e)
     go (suc (suc zero)) e = omega (arith, eqb-true (l .count) 8 e)
     go (suc (suc (suc p))) e = absurd (false≢true e)
@@ -53,12 +87,12 @@ below-leb c m =
     ]
 
 -- a fourth phase is none
-pub no-phase : (p c : ℕ) → (p ≡ idle → ⊥) → (p ≡ running → ⊥) → (p ≡ finished → ⊥) → soundCount p c ≡ false
+pub no-phase : (p c : ℕ) → p ≢ running → p ≢ finished → soundCount p c ≡ false
 unfolding soundCount
-no-phase zero c n0 n1 n2 = absurd (n0 refl)
-no-phase (suc zero) c n0 n1 n2 = absurd (n1 refl)
-no-phase (suc (suc zero)) c n0 n1 n2 = absurd (n2 refl)
-no-phase (suc (suc (suc p))) c n0 n1 n2 = refl
+no-phase zero c n1 n2 = refl
+no-phase (suc zero) c n1 n2 = absurd (n1 refl)
+no-phase (suc (suc zero)) c n1 n2 = absurd (n2 refl)
+no-phase (suc (suc (suc p))) c n1 n2 = refl
 
 -- what a record becomes in a turn of its own
 abbrev pub next : Lane → Lane
@@ -91,13 +125,14 @@ module _ (l : Lane) (sound : soundLane l ≡ true) (runs : l .phase ≡ running)
       (sym (ap (λ (k : Lane). k .phase) served-next) ∙ e)
 
   pub served-sound : soundLane (served l) ≡ true
-  unfolding soundLane soundCount
+  unfolding soundCount
   served-sound =
-      rw served-next
-      (together (leb (l .direction) 1) _ (both (leb (l .direction) 1) (soundCount (l .phase) (l .count)) sound .0)
+      busy-is (served l) served-busy
+      ∙ (rw served-next
+      (together (leb (l .direction) 1) _ (busy-sound l sound (λ z. eqb-false 1 0 refl (sym runs ∙ z)) .0)
       (cond-either (λ (p : ℕ). soundCount p (l .count + 1) ≡ true) (eqb (l .count + 1) 8) finished running
       (λ e. e)
-      (λ e. le-leb (l .count + 1) 7 (omega (arith, running-count l sound runs, eqb-false (l .count + 1) 8 e)))))
+      (λ e. le-leb (l .count + 1) 7 (omega (arith, running-count l sound runs, eqb-false (l .count + 1) 8 e))))))
 
   pub served-lacks : suc (lacks (served l)) ≡ lacks l
   unfolding lacks
@@ -111,11 +146,15 @@ module _ (l : Lane) (sound : soundLane l ≡ true) (runs : l .phase ≡ running)
 
 -- a sound lane with eight turns is finished
 pub eight-finished : (l : Lane) → soundLane l ≡ true → l .count ≡ 8 → l .phase ≡ finished
-unfolding soundLane soundCount
-eight-finished l s e = go (l .phase) (both (leb (l .direction) 1) (soundCount (l .phase) (l .count)) s .1)
+unfolding soundCount
+eight-finished l s e =
+    elim (ℕ-discrete (l .phase) idle) [
+      | yes z ↦ absurd (eqb-false 8 0 refl (sym e ∙ idle-count l s z))
+      | no ne ↦ go (l .phase) (busy-sound l s ne .1)
+    ]
   where
     go : (p : ℕ) → soundCount p (l .count) ≡ true → p ≡ finished
-    go zero h = absurd (eqb-false 8 0 refl (sym e ∙ eqb-true (l .count) 0 h))
+    go zero h = absurd (false≢true h)
     go (suc zero) h = absurd (omega (arith, e, leb-true (l .count) 7 h))
     go (suc (suc zero)) h = refl
     go (suc (suc (suc p))) h = absurd (false≢true h)

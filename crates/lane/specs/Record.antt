@@ -1,6 +1,6 @@
 -- A lane's record: what makes it sound, and what an opening, a turn of its own, yielding and going idle make of it.
-use mathlib.Core.Bool.{Bool, false, cond, _&&_}
-use mathlib.Core.List.{List}
+use mathlib.Core.Bool.{Bool, true, false, cond, _&&_, _||_}
+use mathlib.Core.List.{List, [], _∷_}
 use Prim.Native.Nat.{ℕ, zero, suc, _+_, _-_, _*_}
 use lib.Dec.{eqb, leb, ltb}
 use lib.ListN.{drop, replicate}
@@ -19,15 +19,28 @@ running = 1
 abbrev pub finished : ℕ
 finished = 2
 
--- idle with count 0, running with count 0 to 7, or finished with count 8
+-- An idle lane is all zero: a fresh one, and one that was taken from or closed.
+unfoldable pub idleLane : Lane
+idleLane = record { phase = idle; direction = 0; count = 0; words = replicate 80 0; state = noWords }
+
+-- everything in a record, and whether it is all zero
+unfoldable pub everything : Lane → List ℕ
+everything l = l .phase ∷ l .direction ∷ l .count ∷ l .state .s0 ∷ l .state .s1 ∷ l .state .s2 ∷ l .state .s3 ∷ l .words
+
+unfoldable pub allZero : List ℕ → Bool
+allZero [] = true
+allZero (x ∷ xs) = eqb x 0 && allZero xs
+
+-- running with count 0 to 7, or finished with count 8
 unfoldable pub soundCount : ℕ → ℕ → Bool
-soundCount zero c = eqb c 0
+soundCount zero c = false
 soundCount (suc zero) c = leb c 7
 soundCount (suc (suc zero)) c = eqb c 8
 soundCount (suc (suc (suc p))) c = false
 
+-- all zero, or busy with direction 0 or 1
 unfoldable pub soundLane : Lane → Bool
-soundLane l = leb (l .direction) 1 && soundCount (l .phase) (l .count)
+soundLane l = allZero (everything l) || leb (l .direction) 1 && soundCount (l .phase) (l .count)
 
 -- Opening: the key expanded, the block packed.
 unfoldable pub opened : ℕ → List ℕ → List ℕ → Lane
@@ -61,13 +74,3 @@ lacks l = cond (eqb (l .phase) running) (8 - l .count) 0
 -- Yielding: what a lent buffer holds afterwards, the bytes of the lane's block.
 unfoldable pub yielded : Lane → List ℕ → List ℕ
 yielded l out = unpacked (l .state) out
-
--- Idle, with the round words ws; idle as after a take, when they stay until the next opening; and a fresh lane, all zero.
-unfoldable pub idleWith : List ℕ → Lane
-idleWith ws = record { phase = idle; direction = 0; count = 0; words = ws; state = noWords }
-
-abbrev pub idled : Lane → Lane
-idled l = idleWith (l .words)
-
-abbrev pub freshLane : Lane
-freshLane = idleWith (replicate 80 0)

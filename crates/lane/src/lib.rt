@@ -7,7 +7,8 @@ use quintuple::inv_quintuple_round;
 use quintuple::quintuple_round;
 ghost use mathlib.Core.Path.{_≡_};
 ghost use Prim.Native.Nat.{_<_};
-ghost use Rattle.lane.specs.Record.{soundLane, opened, advanced, served, yielded, idleWith, idled, freshLane};
+ghost use lib.Dec.{eqb};
+ghost use Rattle.lane.specs.Record.{allZero, everything, soundLane, opened, advanced, served, yielded, idleLane};
 
 // The phases of a lane.
 pub const IDLE: u8 = 0;
@@ -34,16 +35,41 @@ pub struct Lane {
     pub state: State,
 }
 
+// ---- sound or not
+
+// A number that is 0 if all the words are: one pass over them, with no way out before its end.
+fn any_bit(words: [u32; 80]) -> u32
+    ensures { λ r. ⌜ eqb r 0 ≡ allZero words ⌝ }
+{
+    let mut bits: u32 = 0;
+    let mut i: usize = 0;
+    while i < 80 {
+        bits |= words[i];
+        i += 1;
+    }
+    bits
+}
+
+fn all_zero(l: Lane) -> bool
+    ensures { λ r. ⌜ r ≡ allZero (everything l) ⌝ }
+{
+    let words = l.words;
+    let state = l.state;
+    let head = (l.phase as u32) | (l.direction as u32) | (l.count as u32);
+    let block = state.s0 | state.s1 | state.s2 | state.s3;
+    (head | block | any_bit(words)) == 0
+}
+
 pub fn sound_lane(l: Lane) -> bool
     ensures { λ r. ⌜ r ≡ soundLane l ⌝ }
 {
     let phase = l.phase;
     let count = l.count;
+    if phase == IDLE {
+        return all_zero(l);
+    }
     if DECRYPT < l.direction {
         return false;
-    }
-    if phase == IDLE {
-        return count == 0;
     }
     if phase == RUNNING {
         return count < TURNS;
@@ -131,23 +157,9 @@ pub fn yielded(l: Lane, out: &mut [u8])
     unpacking(state, out);
 }
 
-// Idle as after a take: the round words stay until the next opening.
-pub fn idled(l: Lane) -> Lane
-    ensures { λ r. ⌜ r ≡ idled l ⌝ }
-{
-    let words = l.words;
-    idle_with(words)
-}
-
-// Idle, all zero.
-pub fn fresh_lane() -> Lane
-    ensures { λ r. ⌜ r ≡ freshLane ⌝ }
-{
-    idle_with([0u32; 80])
-}
-
-fn idle_with(words: [u32; 80]) -> Lane
-    ensures { λ r. ⌜ r ≡ idleWith words ⌝ }
+// Idle, all zero: a fresh lane, and one that was taken from or closed.
+pub fn idle_lane() -> Lane
+    ensures { λ r. ⌜ r ≡ idleLane ⌝ }
 {
     let state = State {
         s0: 0,
@@ -159,7 +171,7 @@ fn idle_with(words: [u32; 80]) -> Lane
         phase: IDLE,
         direction: 0,
         count: 0,
-        words,
+        words: [0u32; 80],
         state,
     }
 }

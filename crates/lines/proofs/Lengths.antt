@@ -58,7 +58,7 @@ response-length : (c : ℕ) (key block : List ℕ) → length (response c key bl
 unfolding response encrypted decrypted afterOne packedText
 response-length c key block =
     either 35 (eqb c 69) _ _ (block-text _)
-    (either 35 (eqb c 68) _ _ (block-text _) (either 35 (eqb c 82) _ _ (block-text _) (words-text _ _ _ _)))
+    (either 35 (eqb c 68) _ _ (block-text _) (either 35 (eqb c 82) _ _ (block-text _) (either 35 (eqb c 70) _ _ (block-text _) (either 35 (eqb c 71) _ _ (block-text _) (words-text _ _ _ _)))))
 
 pub answer-length : (n : ℕ) (line : List ℕ) → n < 2 ^ 64 → length (answerOf n line) ≤ 35
 unfolding answerOf badLine

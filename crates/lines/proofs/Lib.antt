@@ -6,3 +6,4 @@ pub mod Lengths
 pub mod Whole
 pub mod Responses
 pub mod Shape
+pub mod Engines

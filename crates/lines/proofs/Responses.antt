@@ -7,7 +7,8 @@ use borrow.Author.Tests.{eq-eqb, ne-eqb}
 use Rattle.answers.specs.Outcome.{Gives}
 use Rattle.published.specs.Bytes.{fromBytes}
 use Rattle.published.specs.Gift128.{encrypted, decrypted}
-use Rattle.gift128.specs.Calls.{blockCode, keyCode, afterOne}
+use Rattle.published.specs.Calls.{blockCode, keyCode}
+use Rattle.gift128.specs.Calls.{afterOne}
 use Rattle.lines.specs.Hex.{hexOf}
 use Rattle.lines.specs.Line.{packedText, response}
 
@@ -31,6 +32,16 @@ module _ (c : ℕ) (key block : List ℕ) where
       unfolding response
       response-R e = rw (ne-eqb c 69 not-E, ne-eqb c 68 not-D, eq-eqb c 82 e)
 
-      pub response-P : (c ≡ 82 → ⊥) → response c key block ≡ packedText (fromBytes block)
-      unfolding response
-      response-P not-R = rw (ne-eqb c 69 not-E, ne-eqb c 68 not-D, ne-eqb c 82 not-R)
+      module _ (not-R : c ≡ 82 → ⊥) where
+        pub response-F : c ≡ 70 → response c key block ≡ hexOf (encrypted key block)
+        unfolding response
+        response-F e = rw (ne-eqb c 69 not-E, ne-eqb c 68 not-D, ne-eqb c 82 not-R, eq-eqb c 70 e)
+
+        module _ (not-F : c ≡ 70 → ⊥) where
+          pub response-G : c ≡ 71 → response c key block ≡ hexOf (decrypted key block)
+          unfolding response
+          response-G e = rw (ne-eqb c 69 not-E, ne-eqb c 68 not-D, ne-eqb c 82 not-R, ne-eqb c 70 not-F, eq-eqb c 71 e)
+
+          pub response-P : (c ≡ 71 → ⊥) → response c key block ≡ packedText (fromBytes block)
+          unfolding response
+          response-P not-G = rw (ne-eqb c 69 not-E, ne-eqb c 68 not-D, ne-eqb c 82 not-R, ne-eqb c 70 not-F, ne-eqb c 71 not-G)

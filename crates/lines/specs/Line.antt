@@ -11,9 +11,9 @@ use Rattle.gift128.specs.Calls.{afterOne}
 use Rattle.lines.specs.Hex.{allHex, bytesOf, hexOf}
 use Rattle.lines.specs.Decimal.{decimalOf}
 
--- E, D, R or P
+-- E, D, R, P, F or G
 unfoldable pub isLetter : ℕ → Bool
-isLetter c = eqb c 69 || eqb c 68 || eqb c 82 || eqb c 80
+isLetter c = eqb c 69 || eqb c 68 || eqb c 82 || eqb c 80 || eqb c 70 || eqb c 71
 
 abbrev pub keyText : List ℕ → List ℕ
 keyText line = take 32 (drop 2 line)
@@ -37,12 +37,14 @@ wordsText a b c d = hexOf (toBytes 4 a) ++ 32 ∷ hexOf (toBytes 4 b) ++ 32 ∷ 
 unfoldable pub packedText : ℕ → List ℕ
 packedText x = wordsText (word 128 x 0) (word 128 x 1) (word 128 x 2) (word 128 x 3)
 
--- E and D give the block, R the state after round 1, P the four packed words
+-- E and F give the block encrypted, D and G decrypted, R the state after round 1, P the four packed words
 unfoldable pub response : ℕ → List ℕ → List ℕ → List ℕ
 response c key block =
     cond (eqb c 69) (hexOf (encrypted key block))
     (cond (eqb c 68) (hexOf (decrypted key block))
-    (cond (eqb c 82) (hexOf (afterOne key block)) (packedText (fromBytes block))))
+    (cond (eqb c 82) (hexOf (afterOne key block))
+    (cond (eqb c 70) (hexOf (encrypted key block))
+    (cond (eqb c 71) (hexOf (decrypted key block)) (packedText (fromBytes block))))))
 
 -- "bad line " and the line's number
 unfoldable pub badLine : ℕ → List ℕ

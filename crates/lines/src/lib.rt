@@ -184,7 +184,13 @@ fn is_letter(c: u8) -> bool
     if c == b'R' {
         return true;
     }
-    c == b'P'
+    if c == b'P' {
+        return true;
+    }
+    if c == b'F' {
+        return true;
+    }
+    c == b'G'
 }
 
 fn is_good(line: &[u8]) -> bool
@@ -208,7 +214,7 @@ fn is_good(line: &[u8]) -> bool
     all_hex(&line[35..67])
 }
 
-// A good line's answer, by its letter; the block is worked on in place.
+// A good line's answer, by its letter; the block is worked on in place. F and G are by the plain engine.
 fn respond(letter: u8, key: &[u8], block: &mut [u8]) -> Text
     requires { ⌜ (length (now key) ≡ 16) × (length (now block) ≡ 16) ⌝ }
     ensures { λ r. ⌜ r ≡ written (response letter (now (key .entry)) (now (block .entry))) ⌝ }
@@ -223,6 +229,14 @@ fn respond(letter: u8, key: &[u8], block: &mut [u8]) -> Text
     }
     if letter == b'R' {
         one_round(key, block);
+        return push_hex(empty(), block);
+    }
+    if letter == b'F' {
+        plain::encrypt_by_key(key, block);
+        return push_hex(empty(), block);
+    }
+    if letter == b'G' {
+        plain::decrypt_by_key(key, block);
         return push_hex(empty(), block);
     }
     words_text(packing(block))

@@ -1,62 +1,60 @@
--- The bytes of a block read as words and put back as bytes: a byte of such a word is a byte of the block.
-use mathlib.Core.Path.{_≡_, sym, ap, _∙_}
+-- A block and its two halves: halves read from its bytes, their bits gathered into words and scattered again, and halves put as bytes.
+use mathlib.Core.Path.{_≡_, sym, ap, ap₂, _∙_}
 use mathlib.Core.List.{List, [], _∷_}
-use Prim.Native.Nat.{ℕ, zero, suc, _+_, _-_, _*_, _/_, _%_, _<_}
+use Prim.Native.Nat.{ℕ, zero, suc, _+_, _*_, _%_, _^_, _<_}
+use native.Mathlib.Nat.{div-one, mod-eq-of-lt, mul-add-mod-self-right}
 use native.Mathlib.Omega.{arith}
 use lib.Dec.{T, ltb, lit<}
-use lib.ListN.{length, getD}
+use lib.ListN.{length}
 use Rattle.bits.specs.Digit.{digit, bit}
-use Rattle.bits.proofs.Digits.{digit-lt, digit-ext}
+use Rattle.bits.proofs.Digits.{number-cong, number-digit, digit-lt, digit-top, digit-digit}
 use Rattle.bits.proofs.Bits.{bit-digit, bit-ext}
-use Rattle.published.specs.Bytes.{fromBytes, toBytes, Bytes}
-use Rattle.published.proofs.Reading.{fromBytes-lt, digit-fromBytes}
-use Rattle.primitives.specs.declared.State.{State}
-use Rattle.primitives.specs.Words.{permuted}
-use Rattle.primitives.proofs.Moves.{bit-permuted, permuted-lt}
-use Rattle.primitives.proofs.Blocks.{four}
-use Rattle.packing.specs.Inner.{halfPlace, halvesOf, wordAt, wordPut}
+use Rattle.bits.proofs.Computed.{agree}
+use Rattle.published.specs.Bytes.{fromBytes, toBytes}
+use Rattle.published.specs.Packing.{word}
+use Rattle.primitives.specs.Packed.{stateOf}
+use Rattle.primitives.proofs.Blocks.{bit-word, word-lt, wordOf-stateOf}
+use Rattle.packing.specs.Inner.{halfAt, copied, reordered, gatheredFrom, scatteredFrom, wordFrom, halfFrom}
+use Rattle.packing.proofs.Steps.{reordered-lt, bit-reordered}
 
--- byte m of word j is this byte of the block, counted from the least significant
-abbrev byteOf : ℕ → ℕ → ℕ
-byteOf j m = 2 * j + m % 2 + 8 * (m / 2)
+-- half h of a block, the upper one being 1
+abbrev pub halfOf : ℕ → ℕ → ℕ
+halfOf x h = digit (2 ^ 64) x h
 
-digit-half : (x j m : ℕ) → m < 4 → digit 256 (permuted (halfPlace j) x) m ≡ digit 256 x (byteOf j m)
-digit-half x j m h =
-    bit-ext 8 _ _ (digit-lt 256 (lit< tt) (permuted (halfPlace j) x) m) (digit-lt 256 (lit< tt) x (byteOf j m))
-    (λ i l.
-    bit-digit 8 (permuted (halfPlace j) x) m i l ∙ bit-permuted (halfPlace j) x (8 * m + i) (omega arith) ∙ ap (bit x) (place i l)
-    ∙ sym (bit-digit 8 x (byteOf j m) i l))
+-- ---- pieces
+
+-- gathered, piece j of half h is piece h of word j
+pieces : (x h j : ℕ) → h < 2 → j < 4 → digit 65536 (reordered gatheredFrom (halfOf x h)) j ≡ digit 65536 (word 128 x j) h
+pieces x h j l m =
+    bit-ext 16 _ _ (digit-lt 65536 (lit< tt) (reordered gatheredFrom (halfOf x h)) j) (digit-lt 65536 (lit< tt) (word 128 x j) h)
+    (λ i k.
+    bit-digit 16 (reordered gatheredFrom (halfOf x h)) j i k ∙ bit-reordered _ (halfOf x h) (16 * j + i) (omega arith)
+    ∙ bit-digit 64 x h (gatheredFrom (16 * j + i)) (omega arith)
+    ∙ ap (bit x) (place i k)
+    ∙ sym (bit-digit 16 (word 128 x j) h i k ∙ bit-word x j (16 * h + i) (omega arith)))
   where
-    place : (i : ℕ) → i < 8 → halfPlace j (8 * m + i) ≡ 8 * byteOf j m + i
-    place i l = omega arith
+    place : (i : ℕ) → i < 16 → 64 * h + gatheredFrom (16 * j + i) ≡ 4 * (16 * h + i) + j
+    place i k = omega arith
 
--- word j is the one that is read at byte 6 - 2j
-module _ (bs : List ℕ) (len : length bs ≡ 16) (h : Bytes bs) (j at : ℕ) (low : at + 2 * j ≡ 6) where
-  read-byte : (m k : ℕ) → m < 4 → k + byteOf j m ≡ 15 → getD bs k 0 ≡ digit 256 (permuted (halfPlace j) (fromBytes bs)) m
-  read-byte m k l e =
-      ap (λ (n : ℕ). getD bs n 0) (index m k e) ∙ sym (digit-fromBytes bs h (byteOf j m) (omega arith)) ∙ sym (digit-half (fromBytes bs) j m l)
-    where
-      index : (m k : ℕ) → k + byteOf j m ≡ 15 → k ≡ length bs - 1 - byteOf j m
-      index m k e = omega arith
+two : (w : ℕ) → w < 2 ^ 32 → digit 65536 w 1 * 65536 + digit 65536 w 0 ≡ w
+unfolding digit
+two w h = omega arith
 
-  abbrev bytes : List ℕ
-  bytes = getD bs at 0 ∷ getD bs (at + 1) 0 ∷ getD bs (at + 8) 0 ∷ getD bs (at + 9) 0 ∷ []
+pub words : (x j : ℕ) → j < 4 → wordFrom (reordered gatheredFrom (halfOf x 1)) (reordered gatheredFrom (halfOf x 0)) j ≡ word 128 x j
+words x j l =
+    ap₂ (λ (a b : ℕ). a * 65536 + b) (pieces x 1 j (lit< tt) l) (pieces x 0 j (lit< tt) l) ∙ two (word 128 x j) (word-lt x j)
 
-  are-bytes : Bytes bytes
-  are-bytes zero = h at
-  are-bytes (suc zero) = h (at + 1)
-  are-bytes (suc (suc zero)) = h (at + 8)
-  are-bytes (suc (suc (suc zero))) = h (at + 9)
-  are-bytes (suc (suc (suc (suc i)))) = lit< tt
+pub scattered-half : (x h : ℕ) → h < 2 → reordered scatteredFrom (halfFrom (stateOf x) h) ≡ halfOf x h
+scattered-half x h l =
+    ap (reordered scatteredFrom)
+    (number-cong 65536 4 _ _ (λ j m. ap (λ (w : ℕ). digit 65536 w h) (wordOf-stateOf x j m) ∙ sym (pieces x h j l m))
+    ∙ number-digit 65536 (lit< tt) 4 (reordered gatheredFrom (halfOf x h)) (reordered-lt _ (halfOf x h)))
+    ∙ bit-ext 64 _ _ (reordered-lt _ (reordered gatheredFrom (halfOf x h))) (digit-lt (2 ^ 64) (lit< tt) x h)
+    (λ p m.
+    bit-reordered _ (reordered gatheredFrom (halfOf x h)) p m ∙ bit-reordered _ (halfOf x h) (scatteredFrom p) (omega arith)
+    ∙ ap (bit (halfOf x h)) (agree 64 (λ p. gatheredFrom (scatteredFrom p)) (λ p. p) tt p m))
 
-  pub reads : wordAt bs at ≡ permuted (halfPlace j) (fromBytes bs)
-  reads =
-      digit-ext 256 (lit< tt) 4 (fromBytes bytes) (permuted (halfPlace j) (fromBytes bs)) (fromBytes-lt bytes are-bytes)
-      (permuted-lt (halfPlace j) (fromBytes bs))
-      (λ m l.
-      digit-fromBytes bytes are-bytes m l
-      ∙ four (λ (m : ℕ). getD bytes (3 - m) 0 ≡ digit 256 (permuted (halfPlace j) (fromBytes bs)) m) (read-byte 0 (at + 9) (lit< tt) (omega arith))
-      (read-byte 1 (at + 8) (lit< tt) (omega arith)) (read-byte 2 (at + 1) (lit< tt) (omega arith)) (read-byte 3 at (lit< tt) (omega arith)) m l)
+-- ---- bytes
 
 -- a fact of every list of n elements, from the lists written out
 abbrev Each : ℕ → (List ℕ → Type 0) → Type 0
@@ -69,17 +67,27 @@ each zero P p (a ∷ l) e = absurd (omega arith)
 each (suc n) P p [] e = absurd (omega arith)
 each (suc n) P p (a ∷ l) e = each n (λ l. P (a ∷ l)) (p a) l (omega arith)
 
--- the four words put, whatever stood there: the block's bytes
-abbrev pub wordsPut : List ℕ → State → List ℕ
-wordsPut out w = wordPut (wordPut (wordPut (wordPut out 0 (w .s3)) 2 (w .s2)) 4 (w .s1)) 6 (w .s0)
+joined : (bs : List ℕ) → length bs ≡ 16 → fromBytes bs ≡ halfAt bs 0 * 2 ^ 64 + halfAt bs 8
+unfolding fromBytes
+joined = each 16 (λ bs. fromBytes bs ≡ halfAt bs 0 * 2 ^ 64 + halfAt bs 8) (λ _ _ _ _ _ _ _ _ _ _ _ _ _ _ _ _. omega arith)
 
-pub puts : (x : ℕ) (out : List ℕ) → length out ≡ 16 → wordsPut out (halvesOf x) ≡ toBytes 16 x
-unfolding halvesOf wordPut toBytes
+pub reads : (bs : List ℕ) (high low : ℕ) → length bs ≡ 16 → high ≡ halfAt bs 0 → low ≡ halfAt bs 8 → high < 2 ^ 64 → low < 2 ^ 64
+    → (high ≡ halfOf (fromBytes bs) 1) × (low ≡ halfOf (fromBytes bs) 0)
+unfolding digit
+reads bs high low len e f h l =
+    rw (joined bs len, sym e, sym f)
+    (sym (digit-top (2 ^ 64) (lit< tt) 1 high low h l), sym (ap (λ (x : ℕ). x % 2 ^ 64) (div-one (high * 2 ^ 64 + low)) ∙ mul-add-mod-self-right high (2 ^ 64) low ∙ mod-eq-of-lt l))
+
+abbrev halvesPut : ℕ → List ℕ → List ℕ
+halvesPut x out = copied 8 (copied 8 out 0 (toBytes 8 (halfOf x 1))) 8 (toBytes 8 (halfOf x 0))
+
+pub puts : (x : ℕ) (out : List ℕ) → length out ≡ 16 → halvesPut x out ≡ toBytes 16 x
+unfolding copied toBytes
 puts x =
-    each 16 (λ out. wordsPut out (halvesOf x) ≡ toBytes 16 x)
+    each 16 (λ out. halvesPut x out ≡ toBytes 16 x)
     (λ _ _ _ _ _ _ _ _ _ _ _ _ _ _ _ _. λ i.
-    d 3 3 tt i ∷ d 3 2 tt i ∷ d 2 3 tt i ∷ d 2 2 tt i ∷ d 1 3 tt i ∷ d 1 2 tt i ∷ d 0 3 tt i ∷ d 0 2 tt i
-    ∷ d 3 1 tt i ∷ d 3 0 tt i ∷ d 2 1 tt i ∷ d 2 0 tt i ∷ d 1 1 tt i ∷ d 1 0 tt i ∷ d 0 1 tt i ∷ d 0 0 tt i ∷ [])
+    d 1 7 tt i ∷ d 1 6 tt i ∷ d 1 5 tt i ∷ d 1 4 tt i ∷ d 1 3 tt i ∷ d 1 2 tt i ∷ d 1 1 tt i ∷ d 1 0 tt i
+    ∷ d 0 7 tt i ∷ d 0 6 tt i ∷ d 0 5 tt i ∷ d 0 4 tt i ∷ d 0 3 tt i ∷ d 0 2 tt i ∷ d 0 1 tt i ∷ d 0 0 tt i ∷ [])
   where
-    d : (j m : ℕ) → T (ltb m 4) → digit 256 (permuted (halfPlace j) x) m ≡ digit 256 x (byteOf j m)
-    d j m t = digit-half x j m (lit< t)
+    d : (h m : ℕ) → T (ltb m 8) → digit 256 (halfOf x h) m ≡ digit 256 x (8 * h + m)
+    d h m t = digit-digit 256 (lit< tt) 8 x h m (lit< t)

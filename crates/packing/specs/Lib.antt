@@ -1,3 +1,3 @@
--- What packing and unpacking answer; and inner, the words between bytes and swaps.
+-- What packing and unpacking answer; and inner, the halves between bytes and words.
 pub mod Packing
 pub mod Inner

@@ -1,60 +1,113 @@
-// Packing and unpacking of primitives.rs: the sixteen bytes of a block, and the four words in which its bits are kept.
+// Packing and unpacking of primitives.rs: the sixteen bytes of a block, and the four words in which its bits are kept: bit i of word j is bit 4i + j of the block.
+// A block is two halves of 64 bits. Bit 4i + j of a half goes to place 16j + i, so that the half's sixteen bits of word j stand together, as its piece j;
+// word j is piece j of the upper half above piece j of the lower.
 use primitives::State;
-use primitives::swapmove;
-use primitives::swapmovesingle;
 use primitives::u32big;
 ghost use mathlib.Core.Path.{_≡_};
-ghost use Prim.Native.Nat.{ℕ, _+_, _<_};
+ghost use Prim.Native.Nat.{_+_, _<_};
 ghost use lib.ListN.{length};
-ghost use Rattle.primitives.specs.Packed.{stateOf};
+ghost use Rattle.bits.specs.Digit.{digit};
+ghost use Rattle.published.specs.Bytes.{toBytes};
 ghost use Rattle.packing.specs.Packing.{packed, unpacked};
-ghost use Rattle.packing.specs.Inner.{halvesOf, wordAt, wordPut};
+ghost use Rattle.packing.specs.Inner.{fourAt, halfAt, copied, reordered, crossed, rising, gatheredFrom, scatteredFrom, wordFrom, halfFrom};
 
-// A word as the swaps take it is the two bytes at a place and the two that stand eight bytes on: it is read there, and put there.
-fn word_at(input: &[u8], at: usize) -> u32
-    requires { ⌜ at + 9 < length (now input) ⌝ }
-    ensures { λ r. ⌜ r ≡ wordAt (now (input .entry)) at ⌝ }
+// The place of a bit in a half has six binary figures. This exchanges figures k and k + 2 of every place: the mask has the places where figure k is 1 and figure k + 2 is 0,
+// a bit there changes places with the one 3 * 2^k above it, and where the two figures are equal nothing moves.
+fn cross(x: u64, k: u32, mask: u64) -> u64
+    requires { ⌜ (k < 4) × (mask ≡ rising k) ⌝ }
+    ensures { λ r. ⌜ r ≡ reordered (crossed k) x ⌝ }
 {
-    u32big(input[at], input[at + 1], input[at + 8], input[at + 9])
+    let n: u32 = 3 << k;
+    let t = (x ^ (x >> n)) & mask;
+    x ^ t ^ (t << n)
 }
 
-fn put_word(output: &mut [u8], at: usize, w: u32)
-    requires { ⌜ at + 9 < length (now output) ⌝ }
-    ensures { λ r. ⌜ now (output .exit) ≡ wordPut (now (output .entry)) at w ⌝ }
+// From 4i + j to 16j + i: of a place's figures, 0 and 1 are j and the four above them are i. Figure 0 climbs to 2 and on to 4,
+// figure 1 to 3 and on to 5, and each figure of i is passed once and comes down by two.
+fn gather(x: u64) -> u64
+    ensures { λ r. ⌜ r ≡ reordered gatheredFrom x ⌝ }
 {
-    output[at] = ((w >> 24) % 256) as u8;
-    output[at + 1] = ((w >> 16) % 256) as u8;
-    output[at + 8] = ((w >> 8) % 256) as u8;
-    output[at + 9] = (w % 256) as u8;
+    let x0 = cross(x, 0, 0x0a0a0a0a0a0a0a0a);
+    let x1 = cross(x0, 1, 0x00cc00cc00cc00cc);
+    let x2 = cross(x1, 2, 0x0000f0f00000f0f0);
+    cross(x2, 3, 0x00000000ff00ff00)
 }
 
-// The swaps that bring the words as they are read into the words as they are kept.
-fn pack_words(s: State) -> State
-    ensures { λ r. ⌜ ((x : ℕ) → s ≡ halvesOf x → r ≡ stateOf x) ⌝ }
+// Each step undoes itself: the same four, the last first, go back.
+fn scatter(x: u64) -> u64
+    ensures { λ r. ⌜ r ≡ reordered scatteredFrom x ⌝ }
 {
-    let mut s0 = s.s0;
-    let mut s1 = s.s1;
-    let mut s2 = s.s2;
-    let mut s3 = s.s3;
-    s0 = swapmovesingle(s0, 0x0a0a0a0a, 3);
-    s0 = swapmovesingle(s0, 0x00cc00cc, 6);
-    s1 = swapmovesingle(s1, 0x0a0a0a0a, 3);
-    s1 = swapmovesingle(s1, 0x00cc00cc, 6);
-    s2 = swapmovesingle(s2, 0x0a0a0a0a, 3);
-    s2 = swapmovesingle(s2, 0x00cc00cc, 6);
-    s3 = swapmovesingle(s3, 0x0a0a0a0a, 3);
-    s3 = swapmovesingle(s3, 0x00cc00cc, 6);
-    let t01 = swapmove(s0, s1, 0x000f000f, 4);
-    let t02 = swapmove(t01.a, s2, 0x000f000f, 8);
-    let t03 = swapmove(t02.a, s3, 0x000f000f, 12);
-    let t12 = swapmove(t01.b, t02.b, 0x00f000f0, 4);
-    let t13 = swapmove(t12.a, t03.b, 0x00f000f0, 8);
-    let t23 = swapmove(t12.b, t13.b, 0x0f000f00, 4);
-    State {
-        s0: t03.a,
-        s1: t13.a,
-        s2: t23.a,
-        s3: t23.b,
+    let x3 = cross(x, 3, 0x00000000ff00ff00);
+    let x2 = cross(x3, 2, 0x0000f0f00000f0f0);
+    let x1 = cross(x2, 1, 0x00cc00cc00cc00cc);
+    cross(x1, 0, 0x0a0a0a0a0a0a0a0a)
+}
+
+// Piece j of a number: its bits 16j to 16j + 15.
+fn piece(x: u64, j: u32) -> u16
+    requires { ⌜ j < 4 ⌝ }
+    ensures { λ r. ⌜ r ≡ digit 65536 x j ⌝ }
+{
+    ((x >> (16 * j)) % 65536) as u16
+}
+
+// Word j, of two halves whose bits are gathered.
+fn word(high: u64, low: u64, j: u32) -> u32
+    requires { ⌜ j < 4 ⌝ }
+    ensures { λ r. ⌜ r ≡ wordFrom high low j ⌝ }
+{
+    (piece(high, j) as u32) * 65536 + (piece(low, j) as u32)
+}
+
+// Half h, the upper one being 1, its bits still gathered: piece h of each word, that of word 3 on top.
+fn half(s: State, h: u32) -> u64
+    requires { ⌜ h < 2 ⌝ }
+    ensures { λ r. ⌜ r ≡ halfFrom s h ⌝ }
+{
+    let p3 = piece(s.s3 as u64, h) as u64;
+    let p2 = piece(s.s2 as u64, h) as u64;
+    let p1 = piece(s.s1 as u64, h) as u64;
+    let p0 = piece(s.s0 as u64, h) as u64;
+    p3 * 0x1000000000000 + (p2 * 0x100000000 + (p1 * 0x10000 + p0))
+}
+
+// A half is eight of the block's bytes, the first the most significant.
+fn four_at(input: &[u8], at: usize) -> u32
+    requires { ⌜ at + 3 < length (now input) ⌝ }
+    ensures { λ r. ⌜ r ≡ fourAt (now (input .entry)) at ⌝ }
+{
+    u32big(input[at], input[at + 1], input[at + 2], input[at + 3])
+}
+
+fn half_at(input: &[u8], at: usize) -> u64
+    requires { ⌜ at + 7 < length (now input) ⌝ }
+    ensures { λ r. ⌜ r ≡ halfAt (now (input .entry)) at ⌝ }
+{
+    (four_at(input, at) as u64) * 0x100000000 + (four_at(input, at + 4) as u64)
+}
+
+fn bytes(x: u64) -> [u8; 8]
+    ensures { λ r. ⌜ r ≡ toBytes 8 x ⌝ }
+{
+    [
+        ((x >> 56) % 256) as u8,
+        ((x >> 48) % 256) as u8,
+        ((x >> 40) % 256) as u8,
+        ((x >> 32) % 256) as u8,
+        ((x >> 24) % 256) as u8,
+        ((x >> 16) % 256) as u8,
+        ((x >> 8) % 256) as u8,
+        (x % 256) as u8,
+    ]
+}
+
+// A loop, because the compiler makes one store of it, as it does not of sixteen assignments.
+fn put(output: &mut [u8], at: usize, eight: [u8; 8])
+    requires { ⌜ at + 7 < length (now output) ⌝ }
+    ensures { λ r. ⌜ now (output .exit) ≡ copied 8 (now (output .entry)) at eight ⌝ }
+{
+    for i in 0..8 {
+        output[at + i] = eight[i];
     }
 }
 
@@ -63,12 +116,14 @@ pub fn packing(input: &[u8]) -> State
     ensures { λ r. ⌜ r ≡ packed (now (input .entry)) ⌝ }
 {
     if input.len() == 16 {
-        pack_words(State {
-            s0: word_at(input, 6),
-            s1: word_at(input, 4),
-            s2: word_at(input, 2),
-            s3: word_at(input, 0),
-        })
+        let high = gather(half_at(input, 0));
+        let low = gather(half_at(input, 8));
+        State {
+            s0: word(high, low, 0),
+            s1: word(high, low, 1),
+            s2: word(high, low, 2),
+            s3: word(high, low, 3),
+        }
     } else {
         State {
             s0: 0,
@@ -79,40 +134,12 @@ pub fn packing(input: &[u8]) -> State
     }
 }
 
-// The same swaps, the last first.
-fn unpack_words(s: State) -> State
-    ensures { λ r. ⌜ ((x : ℕ) → s ≡ stateOf x → r ≡ halvesOf x) ⌝ }
-{
-    let t23 = swapmove(s.s2, s.s3, 0x0f000f00, 4);
-    let t13 = swapmove(s.s1, t23.b, 0x00f000f0, 8);
-    let t12 = swapmove(t13.a, t23.a, 0x00f000f0, 4);
-    let t03 = swapmove(s.s0, t13.b, 0x000f000f, 12);
-    let t02 = swapmove(t03.a, t12.b, 0x000f000f, 8);
-    let t01 = swapmove(t02.a, t12.a, 0x000f000f, 4);
-    let mut s0 = t01.a;
-    let mut s1 = t01.b;
-    let mut s2 = t02.b;
-    let mut s3 = t03.b;
-    s3 = swapmovesingle(s3, 0x00cc00cc, 6);
-    s3 = swapmovesingle(s3, 0x0a0a0a0a, 3);
-    s2 = swapmovesingle(s2, 0x00cc00cc, 6);
-    s2 = swapmovesingle(s2, 0x0a0a0a0a, 3);
-    s1 = swapmovesingle(s1, 0x00cc00cc, 6);
-    s1 = swapmovesingle(s1, 0x0a0a0a0a, 3);
-    s0 = swapmovesingle(s0, 0x00cc00cc, 6);
-    s0 = swapmovesingle(s0, 0x0a0a0a0a, 3);
-    State { s0, s1, s2, s3 }
-}
-
 // Sixteen bytes are written; a buffer of another length stays as it is.
 pub fn unpacking(state: State, output: &mut [u8])
     ensures { λ r. ⌜ now (output .exit) ≡ unpacked state (now (output .entry)) ⌝ }
 {
     if output.len() == 16 {
-        let w = unpack_words(state);
-        put_word(output, 0, w.s3);
-        put_word(output, 2, w.s2);
-        put_word(output, 4, w.s1);
-        put_word(output, 6, w.s0);
+        put(output, 0, bytes(scatter(half(state, 1))));
+        put(output, 8, bytes(scatter(half(state, 0))));
     }
 }

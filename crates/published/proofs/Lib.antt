@@ -4,3 +4,4 @@ pub mod Reading
 pub mod Steps
 pub mod Undone
 pub mod Gift128
+pub mod Calls

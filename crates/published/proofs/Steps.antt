@@ -1,10 +1,11 @@
 -- What each step of a round does to a nibble or a bit, that it stays within the width, and that its inverse undoes it and is undone by it.
-use mathlib.Core.Path.{_≡_, refl, sym, ap, ap₂, _∙_}
+use mathlib.Core.Path.{_≡_, sym, ap, ap₂, _∙_}
 use mathlib.Core.Bool.{Bool, _&&_}
-use Prim.Native.Nat.{ℕ, zero, suc, _+_, _*_, _/_, _^_, _≤_, _<_, zero-le}
-use native.Mathlib.Nat.{le-refl, le-of-suc-le}
+use Prim.Native.Nat.{ℕ, zero, suc, _+_, _*_, _/_, _%_, _^_, _≤_, _<_, zero-le}
+use native.Mathlib.Nat.{le-refl, le-of-suc-le, mod-lt, div-add-mod', div-lt-iff-lt-mul, mul-comm, mul-left-comm}
 use native.Mathlib.Decide.{decLt}
 use native.Mathlib.Omega.{arith}
+use lib.Arith.{digits-lt, digits-div, digits-mod}
 use lib.Dec.{ltb, lit<}
 use borrow.Author.Tests.{lt-ltb, le-ltb}
 use Rattle.bits.specs.Digit.{digit, one, bit, ofBits, _⊕_}
@@ -23,16 +24,91 @@ pub record Width (n : ℕ) : Type 0 where
   pub back-P : (i : ℕ) → i < n → back n (P n i) ≡ i
   pub P-back : (q : ℕ) → q < n → P n (back n q) ≡ q
 
+-- every multiple of 16 is such a width: P keeps the place in a nibble, and the nibbles of four quarters change places
+module _ (m : ℕ) where
+  quarter : 16 * m / 4 ≡ 4 * m
+  quarter = omega arith
+
+  -- bit j of nibble 4 a + h goes to bit j of nibble a of a quarter, and comes from there
+  P-at : (a h j : ℕ) → h < 4 → j < 4 → P (16 * m) (16 * a + 4 * h + j) ≡ (3 * h + j) % 4 * (4 * m) + (4 * a + j)
+  unfolding P
+  P-at a h j hh hj =
+      let e1 : (16 * a + 4 * h + j) / 16 ≡ a = omega arith in
+      let e2 : (16 * a + 4 * h + j) % 16 / 4 ≡ h = omega arith in
+      let e3 : (16 * a + 4 * h + j) % 4 ≡ j = omega arith in
+      rw (e1, e2, e3, quarter, mul-comm (4 * m)) (omega arith)
+
+  back-at : (k a j : ℕ) → a < m → j < 4 → back (16 * m) (k * (4 * m) + (4 * a + j)) ≡ 16 * a + 4 * ((j + 3 * k) % 4) + j
+  back-at k a j ha hj =
+      let low : 4 * a + j < 4 * m = omega arith in
+      let e1 : (k * (4 * m) + (4 * a + j)) % 4 ≡ j = rw (mul-left-comm k 4 m) (omega arith) in
+      let e2 : (4 * a + j) / 4 ≡ a = omega arith in
+      rw (quarter, e1, digits-div k low, digits-mod k low, e2)
+
+  -- a place and where it goes, by their parts
+  place : (i : ℕ) → i ≡ 16 * (i / 16) + 4 * (i % 16 / 4) + i % 4
+  place i = omega arith
+
+  quarter-of : ℕ → ℕ
+  quarter-of i = (3 * (i % 16 / 4) + i % 4) % 4
+
+  goes : (i : ℕ) → P (16 * m) i ≡ quarter-of i * (4 * m) + (4 * (i / 16) + i % 4)
+  unfolding quarter-of
+  goes i = ap (P (16 * m)) (place i) ∙ P-at (i / 16) (i % 16 / 4) (i % 4) (omega arith) (omega arith)
+
+  goes-lt : (i : ℕ) → i < 16 * m → P (16 * m) i < 16 * m
+  unfolding quarter-of
+  goes-lt i h =
+      let low : 4 * (i / 16) + i % 4 < 4 * m = omega arith in
+      let lt : quarter-of i * (4 * m) + (4 * (i / 16) + i % 4) < 4 * (4 * m) = digits-lt (mod-lt (3 * (i % 16 / 4) + i % 4) (lit< tt)) low in
+      rw (goes i) (omega arith)
+
+  comes-back : (i : ℕ) → i < 16 * m → back (16 * m) (P (16 * m) i) ≡ i
+  unfolding quarter-of
+  comes-back i h =
+      let column : (i % 4 + 3 * ((3 * (i % 16 / 4) + i % 4) % 4)) % 4 ≡ i % 16 / 4 = omega arith in
+      ap (back (16 * m)) (goes i) ∙ back-at (quarter-of i) (i / 16) (i % 4) (omega arith) (omega arith)
+      ∙ ap (λ (h : ℕ). 16 * (i / 16) + 4 * h + i % 4) column
+      ∙ sym (place i)
+
+  -- a place's quarter, its nibble there and its bit in that
+  module _ (q : ℕ) (h : q < 16 * m) where
+    k : ℕ
+    k = q / (4 * m)
+
+    r : ℕ
+    r = q % (4 * m)
+
+    r-lt : r < 4 * m
+    unfolding r
+    r-lt = mod-lt q (omega arith)
+
+    parts : q ≡ k * (4 * m) + (4 * (r / 4) + r % 4)
+    unfolding k r
+    parts = let in-nibble : r ≡ 4 * (r / 4) + r % 4 = omega arith in sym (div-add-mod' q (4 * m)) ∙ ap (λ (x : ℕ). k * (4 * m) + x) in-nibble
+
+    k-lt : k < 4
+    unfolding k
+    k-lt = let lt : q < 4 * (4 * m) = omega arith in let pos : zero < 4 * m = omega arith in div-lt-iff-lt-mul pos .1 lt
+
+    came : back (16 * m) q ≡ 16 * (r / 4) + 4 * ((r % 4 + 3 * k) % 4) + r % 4
+    came = ap (back (16 * m)) parts ∙ back-at k (r / 4) (r % 4) (omega (arith, r-lt)) (omega arith)
+
+    came-lt : back (16 * m) q < 16 * m
+    came-lt = rw came (omega (arith, r-lt))
+
+    goes-again : P (16 * m) (back (16 * m) q) ≡ q
+    goes-again =
+        let again : (3 * ((r % 4 + 3 * k) % 4) + r % 4) % 4 ≡ k = omega (arith, k-lt) in
+        ap (P (16 * m)) came ∙ P-at (r / 4) ((r % 4 + 3 * k) % 4) (r % 4) (omega arith) (omega arith)
+        ∙ ap (λ (x : ℕ). x * (4 * m) + (4 * (r / 4) + r % 4)) again
+        ∙ sym parts
+
+  pub width : Width (16 * m)
+  width = record { whole = omega arith; P-lt = goes-lt; back-lt = came-lt; back-P = comes-back; P-back = goes-again }
+
 pub width128 : Width 128
-unfolding P
-width128 =
-    record {
-      whole = refl;
-      P-lt = bounded 128 128 (P 128) tt;
-      back-lt = bounded 128 128 (back 128) tt;
-      back-P = agree 128 (λ i. back 128 (P 128 i)) (λ i. i) tt;
-      P-back = agree 128 (λ q. P 128 (back 128 q)) (λ q. q) tt;
-    }
+width128 = width 8
 
 -- ---- the tables
 
@@ -92,7 +168,7 @@ module _ (n : ℕ) (ok : Width n) where
       ]
 
   -- the k low bits, moved: bit q is set if it came from a place below k and was set there
-  moved-low : (k s : ℕ) → k ≤ n → moved (P n) k s ≡ ofBits n (λ q. ltb (back n q) k && bit s (back n q))
+  pub moved-low : (k s : ℕ) → k ≤ n → moved (P n) k s ≡ ofBits n (λ q. ltb (back n q) k && bit s (back n q))
   unfolding moved
   moved-low zero s h = sym (ofBits-none n (λ q. ltb (back n q) 0 && bit s (back n q)) (λ q l. ap (λ (t : Bool). t && bit s (back n q)) (le-ltb (back n q) 0 zero-le)))
   moved-low (suc k) s h =

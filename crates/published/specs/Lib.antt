@@ -3,5 +3,6 @@ pub mod Bytes
 pub mod Rounds
 pub mod Key
 pub mod Gift128
+pub mod Calls
 pub mod Packing
 pub mod Inner

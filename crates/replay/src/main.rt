@@ -1,230 +1,166 @@
-// Replays cases: makes each call that a line names, and compares its answer with the one that stands in the line.
+// Replays cases: makes each call that a line names, and compares what it gives and leaves with what the line says.
 //
-// A line of standard input is a case, `CALL FIELDS = ANSWER` (calls.rt has the fields of each call), or it begins with `#`: with `##` it is a
-// heading, under which the cases after it are counted, and else a remark. The last line of the output says how many cases were equal and how
-// many different. The cases that the gate replays stand in the file stdin beside src/.
-mod calls;
+// Standard input is a file. A line of it is a case, the name of a call and fields (text.rt), or `## TEXT`, a heading, under which the cases
+// after it are counted, or `# TEXT`, a remark, or it tells a record of the bench (benches.rt). The last line of the output says how many
+// cases were equal and how many different. The cases that the gate replays stand in the file stdin beside src/.
+mod benches;
+mod cipher;
 mod text;
 
-ghost use Prim.Native.Nat.{_≤_};
-ghost use lib.ListN.{length};
-ghost use Rattle.io.specs.Counts.{Counts};
-use calls::answer;
-use check::same;
+use bench::Bench;
+use bench::LANES;
+use bytes::scan::find;
 use libc::STDIN_FILENO;
 use libc::STDOUT_FILENO;
-use text::wanted;
+use std::num::wrapping_add_u64;
+use text::number;
 
-// What was counted: the lines, the cases under a heading, and all cases.
-struct Tally {
-    lines: u64,
+// How long a line can be.
+const LINE: usize = 4096;
+
+// Where the next line begins, how many cases were equal and how many different, how many were equal before the last heading, the bench, and
+// the bench as it is to be after the next call.
+struct Run {
+    at: u64,
     equal: u64,
     different: u64,
-    all_equal: u64,
-    all_different: u64,
-    headed: bool,
-}
-
-// How far the reading has come: how many bytes are kept of a line that has begun, and whether there may be more.
-struct Progress {
-    kept: usize,
-    more: bool,
-    tally: Tally,
-}
-
-fn next(n: u64) -> u64 {
-    if n < u64::MAX { n + 1 } else { n }
-}
-
-// n, or all of s where n is more.
-fn within(n: usize, s: &[u8]) -> usize
-    ensures { λ r. ⌜ Counts r (now (s .entry)) ⌝ }
-{
-    if n < s.len() { n } else { s.len() }
+    before: u64,
+    bench: Bench,
+    told: Bench,
 }
 
 fn say(text: &[u8]) {
     io::write_all(STDOUT_FILENO, text);
 }
 
-fn say_number(n: u64) {
+fn say_count(n: u64, text: &[u8]) {
     io::print_decimal(STDOUT_FILENO, n);
+    say(text);
 }
 
-// Ends a heading's line with its counts.
-fn closed(mut t: Tally) -> Tally {
-    if t.headed {
-        if 0 < t.different {
-            say(b"\n");
-        }
-        say_number(t.equal);
-        say(b" equal");
-        if 0 < t.different {
-            say(b", ");
-            say_number(t.different);
-            say(b" different");
-        }
-        say(b"\n");
+// Ends a heading's line with its count.
+fn closed(r: Run) {
+    if r.before < r.equal {
+        say_count(r.equal - r.before, b" equal\n");
     }
-    t.equal = 0;
-    t.different = 0;
-    t.headed = false;
-    t
 }
 
-fn headed(t: Tally, line: &[u8]) -> Tally {
-    let mut u = closed(t);
-    if 3 < line.len() {
-        say(&line[3..]);
-    }
+fn headed(r: Run, line: &[u8]) -> Run {
+    closed(r);
+    say(line);
     say(b": ");
-    u.headed = true;
-    u
+    let mut q = r;
+    q.before = r.equal;
+    q
 }
 
-fn agreed(mut t: Tally) -> Tally {
-    t.equal = next(t.equal);
-    t.all_equal = next(t.all_equal);
-    t.headed = true;
-    t
+fn counted(r: Run, right: bool, line: &[u8]) -> Run {
+    let mut q = r;
+    if right {
+        q.equal = wrapping_add_u64(r.equal, 1);
+        return q;
+    }
+    q.different = wrapping_add_u64(r.different, 1);
+    say(line);
+    say(b" differs\n");
+    q
 }
 
-fn differed(mut t: Tally, got: &[u8]) -> Tally {
-    say(b"\n  line ");
-    say_number(t.lines);
-    say(b" gives ");
-    say(got);
-    t.different = next(t.different);
-    t.all_different = next(t.all_different);
-    t.headed = true;
-    t
+// The number of a call, and 0 for a name that is none. (The names are read as the fields of a line are: a number is in hex.)
+fn call_of(line: &[u8]) -> u32 {
+    let e = find(line, 0, line.len(), b' ');
+    number(
+        b"encrypt_by_key=1 decrypt_by_key=2 one_round=3 encrypt_blocks=4 decrypt_blocks=5 encrypt_block=6 decrypt_block=7 \
+          encrypt_by_words=8 decrypt_by_words=9 unpacking=a precompute_rkeys=b new=c \
+          ror=11 swapmovesingle=12 u32big=13 byte_ror_2=14 byte_ror_4=15 byte_ror_6=16 half_ror_4=17 half_ror_8=18 half_ror_12=19 \
+          nibble_ror_1=1a nibble_ror_2=1b nibble_ror_3=1c round_constant=1d \
+          sbox=21 inv_sbox=22 swapmove=23 packing=24 quintuple_round=25 inv_quintuple_round=26 first_round=27 \
+          open_lane=31 turn=32 close=33 take=34 fresh=35 put=41 record=42 #=51 ##=52",
+        &line[0..e],
+    )
 }
 
-// No answer at all is never the right one.
-fn agrees(line: &[u8], got: &[u8]) -> bool {
-    if got.len() == 0 {
-        return false;
+// The records that are told become the bench, whatever the call made of it: a difference is told once.
+fn on_bench(r: Run, call: u32, line: &[u8]) -> Run {
+    let bench = r.bench;
+    let mut told = r.told;
+    told.last = number(line, b"last");
+    let mut q = r;
+    q.bench = told;
+    q.told = told;
+    if call == 0x41 {
+        return q;
     }
-    same(wanted(line), got)
+    counted(q, benches::right(call, bench, told, line), line)
 }
 
-fn replayed(t: Tally, line: &[u8]) -> Tally {
-    let mut out = io::buffer();
-    let n = answer(line, &mut out);
-    let k = within(n, &out);
-    if agrees(line, &out[..k]) {
-        agreed(t)
-    } else {
-        differed(t, &out[..k])
+// A record that the bench does not have is a difference.
+fn recorded(r: Run, line: &[u8]) -> Run {
+    if LANES <= number(line, b"lane") as usize {
+        return counted(r, false, line);
+    }
+    let told = benches::told(r.told, line);
+    let mut q = r;
+    q.told = told;
+    q
+}
+
+fn judged(r: Run, line: &[u8]) -> Run {
+    let call = call_of(line);
+    match call {
+        0x31..=0x41 => on_bench(r, call, line),
+        0x42 => recorded(r, line),
+        0x51 => r,
+        0x52 => headed(r, line),
+        _ => counted(r, cipher::right(call, line), line),
     }
 }
 
-fn judged(mut t: Tally, line: &[u8]) -> Tally {
-    t.lines = next(t.lines);
-    if line.len() == 0 {
-        return t;
-    }
-    if line[0] != b'#' {
-        return replayed(t, line);
-    }
-    if line.len() == 1 {
-        return t;
-    }
-    if line[1] != b'#' {
-        return t;
-    }
-    headed(t, line)
+// The first line of a text. One that is too long is cut, and what is left of it is no call.
+fn first_judged(r: Run, text: &[u8]) -> Run {
+    let e = find(text, 0, text.len(), b'\n');
+    let mut q = r;
+    q.at = wrapping_add_u64(r.at, e as u64 + 1);
+    judged(q, &text[0..e])
 }
 
-// One byte more. A line that is longer than its buffer is cut, and then its answer is too.
-fn fed(mut p: Progress, b: u8, line: &mut [u8]) -> Progress
-    requires { ⌜ p .kept ≤ length (now line) ⌝ }
-    ensures { λ r. ⌜ r .kept ≤ length (now (line .entry)) ⌝ }
-{
-    let kept = p.kept;
-    if b == b'\n' {
-        let tally = judged(p.tally, &line[0..kept]);
-        return Progress {
-            kept: 0,
-            more: true,
-            tally,
-        };
-    }
-    if kept < line.len() {
-        line[kept] = b;
-        p.kept = kept + 1;
-        return p;
-    }
-    p
-}
-
-fn fed_all(start: Progress, bytes: &[u8], line: &mut [u8]) -> Progress
-    requires { ⌜ start .kept ≤ length (now line) ⌝ }
-    ensures { λ r. ⌜ r .kept ≤ length (now (line .entry)) ⌝ }
-{
-    let mut p = start;
-    let mut i = 0;
-    while i < bytes.len() {
-        p = fed(p, bytes[i], line);
-        i += 1;
-    }
-    p
-}
-
-fn read_some(mut p: Progress, line: &mut [u8]) -> Progress
-    requires { ⌜ p .kept ≤ length (now line) ⌝ }
-    ensures { λ r. ⌜ r .kept ≤ length (now (line .entry)) ⌝ }
-{
-    let mut buf = io::large_buffer();
-    let n = io::read_full(STDIN_FILENO, &mut buf);
+// At the end of the input nothing is read, and the run stays as it is.
+fn step(r: Run) -> Run {
+    let mut text = [0u8; LINE];
+    let got = libc::pread(STDIN_FILENO, &mut text, (r.at % 9223372036854775808) as i64);
+    let n = io::count(got, &text);
     if n == 0 {
-        p.more = false;
-        return p;
+        return r;
     }
-    fed_all(p, &buf[..n], line)
+    first_judged(r, &text[..n])
 }
 
 // A proved loop has to end, and nothing says that the input does: it counts down from a number that no run uses up.
-fn read_all(line: &mut [u8], t: Tally) -> Progress {
-    let mut p = Progress {
-        kept: 0,
-        more: true,
-        tally: t,
-    };
+fn replayed(start: Run) -> Run {
+    let mut r = start;
     let mut turns = u64::MAX;
     while 0 < turns {
-        if !p.more {
-            return p;
+        let q = step(r);
+        if q.at == r.at {
+            return r;
         }
-        p = read_some(p, line);
+        r = q;
         turns -= 1;
     }
-    p
-}
-
-fn replay(t: Tally) -> Tally {
-    let mut line = io::buffer();
-    let p = read_all(&mut line, t);
-    let tally = p.tally;
-    if p.kept == 0 {
-        return closed(tally);
-    }
-    let n = within(p.kept, &line);
-    closed(judged(tally, &line[..n]))
+    r
 }
 
 fn main() {
-    let t = Tally {
-        lines: 0,
+    let bench = bench::fresh();
+    let r = replayed(Run {
+        at: 0,
         equal: 0,
         different: 0,
-        all_equal: 0,
-        all_different: 0,
-        headed: false,
-    };
-    let u = replay(t);
-    say_number(u.all_equal);
-    say(b" cases equal, ");
-    say_number(u.all_different);
-    say(b" different\n");
+        before: 0,
+        bench,
+        told: bench,
+    });
+    closed(r);
+    say_count(r.equal, b" cases equal, ");
+    say_count(r.different, b" different\n");
 }

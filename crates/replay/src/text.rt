@@ -1,231 +1,176 @@
-// The text of a case: fields between spaces, bytes and words as hex digits, numbers in decimal. It is read and written here.
-ghost use Prim.Native.Nat.{_+_, _≤_, _<_};
+// The text of a case: the fields of a line.
+//
+// A line is words with a space between them. The first is the name of a call, and the others are fields, NAME=DIGITS: hex digits, two to a byte
+// and eight to a word, with full stops between them where a reader wants some. A number may be written with fewer digits than eight. The
+// order of the fields is free, one that is not there is empty, and one that the call does not have is passed over. oracle/README.md has the
+// fields of each call.
+use bytes::scan::find;
+use check::same;
+use primitives::State;
+ghost use Prim.Native.Nat.{_≤_};
 ghost use lib.ListN.{length};
-ghost use Rattle.io.specs.Counts.{Counts};
 
-// The first place from `from` on where c stands; the line's end where it stands nowhere.
-pub(crate) fn find(line: &[u8], from: usize, c: u8) -> usize
-    requires { ⌜ from ≤ length (now line) ⌝ }
-    ensures { λ r. ⌜ (from ≤ r) × (r ≤ length (now (line .entry))) ⌝ }
-{
-    let mut i = from;
-    while i < line.len() {
-        if line[i] == c {
-            return i;
-        }
-        i += 1;
-    }
-    i
+// How long a field can be; its last word is kept free.
+pub(crate) const WORDS: usize = 128;
+
+pub(crate) const BYTES: usize = 4 * WORDS;
+
+const DIGITS: usize = 8 * WORDS;
+
+const MOST: usize = DIGITS - 8;
+
+// A field, seen as bytes and seen as words: how many of each there are, one that is not whole among them, and zeros after them.
+pub(crate) struct Part {
+    pub(crate) n: usize,
+    pub(crate) m: usize,
+    pub(crate) bytes: [u8; BYTES],
+    pub(crate) words: [u32; WORDS],
 }
 
-// Where the field after this one starts.
-fn next_start(line: &[u8], from: usize) -> usize
-    requires { ⌜ from ≤ length (now line) ⌝ }
-    ensures { λ r. ⌜ r ≤ length (now (line .entry)) ⌝ }
-{
-    let e = find(line, from, b' ');
-    if e < line.len() { e + 1 } else { e }
+// How far the reading of a field has come: its digits so far, and the last eight.
+struct At {
+    digits: usize,
+    word: u32,
 }
 
-fn start_of(line: &[u8], n: usize) -> usize
+// Where the name of a field ends, and its digits follow; the end of the line if it has no such field.
+fn place(line: &[u8], name: &[u8]) -> usize
     ensures { λ r. ⌜ r ≤ length (now (line .entry)) ⌝ }
 {
     let mut at = 0;
-    let mut left = n;
-    while 0 < left {
-        at = next_start(line, at);
-        left -= 1;
+    while at < line.len() {
+        let e = find(line, at, line.len(), b' ');
+        let q = find(line, at, e, b'=');
+        if same(&line[at..q], name) {
+            return q;
+        }
+        at = e + 1;
     }
-    at
+    line.len()
 }
 
-// Field n, from 0. Past the last one it is empty.
-pub(crate) fn field(line: &[u8], n: usize) -> &[u8] {
-    let a = start_of(line, n);
-    let e = find(line, a, b' ');
-    &line[a..e]
-}
-
-// What stands after the sign of equality: the answer as it is to be.
-pub(crate) fn wanted(line: &[u8]) -> &[u8] {
-    let sign = find(line, 0, b'=');
-    let a = next_start(line, sign);
-    &line[a..]
-}
-
-// What a hex digit stands for, and 16 for any other byte.
-fn value(c: u8) -> u32
-    ensures { λ r. ⌜ r ≤ 16 ⌝ }
-{
+// One byte more: a digit, or none.
+fn more(p: At, c: u8) -> At {
     match c {
-        48..=57 => (c - 48) as u32,
-        97..=102 => (c - 87) as u32,
-        _ => 16,
+        0..=47 => p,
+        58..=63 => p,
+        _ => At {
+            digits: p.digits % MOST + 1,
+            word: (p.word << 4) | ((c % 16) + 9 * (c / 64)) as u32,
+        },
     }
 }
 
-// The byte whose two digits stand at i, and 256 where none do.
-fn pair(hex: &[u8], i: usize) -> u32
-    ensures { λ r. ⌜ r ≤ 256 ⌝ }
-{
-    if hex.len() <= i {
-        return 256;
-    }
-    if hex.len() - i < 2 {
-        return 256;
-    }
-    let high = value(hex[i]);
-    let low = value(hex[i + 1]);
-    if 15 < high {
-        return 256;
-    }
-    if 15 < low {
-        return 256;
-    }
-    16 * high + low
+// Each digit completes the byte and the word that it stands in. (With no digit yet, it is the free ones at the end.)
+fn put(p: At, bytes: &mut [u8; BYTES], words: &mut [u32; WORDS]) {
+    let d = p.digits % DIGITS + (DIGITS - 1);
+    bytes[d / 2 % BYTES] = (p.word % 256) as u8;
+    words[d / 8 % WORDS] = p.word;
 }
 
-// The word whose eight digits stand at i, and 2^32 where none do.
-fn quad(hex: &[u8], i: usize) -> u64
-    ensures { λ r. ⌜ r ≤ 4294967296 ⌝ }
-{
-    if hex.len() <= i {
-        return 4294967296;
-    }
-    if hex.len() - i < 8 {
-        return 4294967296;
-    }
-    let a = pair(hex, i);
-    let b = pair(hex, i + 2);
-    let c = pair(hex, i + 4);
-    let d = pair(hex, i + 6);
-    if 255 < a {
-        return 4294967296;
-    }
-    if 255 < b {
-        return 4294967296;
-    }
-    if 255 < c {
-        return 4294967296;
-    }
-    if 255 < d {
-        return 4294967296;
-    }
-    (((a as u64) * 256 + (b as u64)) * 256 + (c as u64)) * 256 + (d as u64)
-}
-
-// Puts the bytes of a field at the start of out, and answers how many there are. What is no pair of digits ends them.
-pub(crate) fn bytes_of(hex: &[u8], out: &mut [u8]) -> usize
-    ensures { λ r. ⌜ Counts r (now (out .exit)) ⌝ }
-{
-    let mut n = 0;
-    while n < out.len() {
-        let b = pair(hex, 2 * n);
-        if 255 < b {
-            return n;
-        }
-        out[n] = b as u8;
-        n += 1;
-    }
-    n
-}
-
-// The same of words, eight digits each.
-pub(crate) fn words_of(hex: &[u8], out: &mut [u32]) -> usize
-    ensures { λ r. ⌜ Counts r (now (out .exit)) ⌝ }
-{
-    let mut n = 0;
-    while n < out.len() {
-        let w = quad(hex, 8 * n);
-        if 4294967295 < w {
-            return n;
-        }
-        out[n] = w as u32;
-        n += 1;
-    }
-    n
-}
-
-// A number in decimal. What is no digit, or would not fit, ends it.
-pub(crate) fn number_of(text: &[u8]) -> usize {
-    let mut n: usize = 0;
+fn read(text: &[u8]) -> Part {
+    let mut bytes = [0u8; BYTES];
+    let mut words = [0u32; WORDS];
+    let mut p = At { digits: 0, word: 0 };
     let mut i = 0;
     while i < text.len() {
-        let d = value(text[i]) as usize;
-        if 9 < d {
-            return n;
+        p = more(p, text[i]);
+        put(p, &mut bytes, &mut words);
+        i += 1;
+    }
+    let d = p.digits % DIGITS;
+    Part {
+        n: (d + 1) / 2,
+        m: (d + 7) / 8,
+        bytes,
+        words,
+    }
+}
+
+pub(crate) fn field(line: &[u8], name: &[u8]) -> Part {
+    let a = place(line, name);
+    let e = find(line, a, line.len(), b' ');
+    read(&line[a..e])
+}
+
+// The fields that many calls have.
+pub(crate) fn key(line: &[u8]) -> Part {
+    field(line, b"key")
+}
+
+pub(crate) fn lent(line: &[u8]) -> Part {
+    field(line, b"lent")
+}
+
+pub(crate) fn words(line: &[u8]) -> Part {
+    field(line, b"words")
+}
+
+pub(crate) fn front(bytes: &[u8; BYTES], n: usize) -> &[u8] {
+    let all = &bytes[..];
+    let e = n % BYTES;
+    &all[0..e]
+}
+
+pub(crate) fn front_words(words: &[u32; WORDS], m: usize) -> &[u32] {
+    let all = &words[..];
+    let e = m % WORDS;
+    &all[0..e]
+}
+
+// The first four words of a field.
+pub(crate) fn four(line: &[u8], name: &[u8]) -> State {
+    let p = field(line, name);
+    let w = p.words;
+    State {
+        s0: w[0],
+        s1: w[1],
+        s2: w[2],
+        s3: w[3],
+    }
+}
+
+pub(crate) fn args(line: &[u8]) -> State {
+    four(line, b"args")
+}
+
+pub(crate) fn number(line: &[u8], name: &[u8]) -> u32 {
+    let s = four(line, name);
+    s.s0
+}
+
+pub(crate) fn same_words(a: &[u32], b: &[u32]) -> bool {
+    if a.len() != b.len() {
+        return false;
+    }
+    let mut i = 0;
+    while i < a.len() {
+        if a[i] != b[i] {
+            return false;
         }
-        if (usize::MAX - d) / 10 < n {
-            return n;
-        }
-        n = 10 * n + d;
         i += 1;
     }
-    n
+    true
 }
 
-// Writes one byte at `at`, and answers the place after it. Nothing is written past the end.
-pub(crate) fn put(out: &mut [u8], at: usize, b: u8) -> usize {
-    if at < out.len() {
-        out[at] = b;
-        return at + 1;
-    }
-    at
+// Whether a field has these words, and no more.
+pub(crate) fn says(line: &[u8], name: &[u8], got: &[u32]) -> bool {
+    let p = field(line, name);
+    let words = p.words;
+    same_words(front_words(&words, p.m), got)
 }
 
-pub(crate) fn put_text(out: &mut [u8], at: usize, text: &[u8]) -> usize {
-    let mut n = at;
-    let mut i = 0;
-    while i < text.len() {
-        n = put(out, n, text[i]);
-        i += 1;
-    }
-    n
+pub(crate) fn says_one(line: &[u8], name: &[u8], got: u32) -> bool {
+    says(line, name, &[got])
 }
 
-pub(crate) fn put_number(out: &mut [u8], at: usize, n: u64) -> usize {
-    let mut text = [0u8; 20];
-    let k = io::decimal(n, &mut text);
-    put_text(out, at, &text[..k])
+pub(crate) fn says_number(line: &[u8], code: u32) -> bool {
+    says_one(line, b"number", code)
 }
 
-fn put_hex(out: &mut [u8], at: usize, n: u64, width: usize) -> usize {
-    let mut text = [0u8; 16];
-    let k = io::hex(n, width, &mut text);
-    put_text(out, at, &text[..k])
-}
-
-fn put_byte(out: &mut [u8], at: usize, b: u8) -> usize {
-    put_hex(out, at, b as u64, 2)
-}
-
-fn put_word(out: &mut [u8], at: usize, w: u32) -> usize {
-    put_hex(out, at, w as u64, 8)
-}
-
-// The digits of bytes and of words. None at all are written as a dash.
-pub(crate) fn put_bytes(out: &mut [u8], at: usize, bytes: &[u8]) -> usize {
-    if bytes.len() == 0 {
-        return put(out, at, b'-');
-    }
-    let mut n = at;
-    let mut i = 0;
-    while i < bytes.len() {
-        n = put_byte(out, n, bytes[i]);
-        i += 1;
-    }
-    n
-}
-
-pub(crate) fn put_words(out: &mut [u8], at: usize, words: &[u32]) -> usize {
-    if words.len() == 0 {
-        return put(out, at, b'-');
-    }
-    let mut n = at;
-    let mut i = 0;
-    while i < words.len() {
-        n = put_word(out, n, words[i]);
-        i += 1;
-    }
-    n
+// Whether these bytes are what was lent, afterwards.
+pub(crate) fn left(line: &[u8], got: &[u8]) -> bool {
+    let p = field(line, b"left");
+    let bytes = p.bytes;
+    same(front(&bytes, p.n), got)
 }

@@ -46,5 +46,7 @@ fn main() -> Result<(), Refusal> {
             break;
         }
     }
+    // every lane was taken from or closed: nothing of the key or of a setting is left in a record
+    assert_eq!(bench.records(), Bench::new().records());
     Ok(())
 }

@@ -29,7 +29,7 @@ pub struct State {
     pub s3: u32,
 }
 
-/// One lane's record. It is sound if its direction is 0 or 1 and it is idle with count 0, running with count 0 to 7, or finished with count 8.
+/// One lane's record. It is sound if it is all zero, which is idle, or if its direction is 0 or 1 and it is running with count 0 to 7 or finished with count 8.
 #[derive(Clone, Copy, PartialEq, Eq)]
 #[repr(C)]
 pub struct Lane {
@@ -39,7 +39,7 @@ pub struct Lane {
     pub direction: u8,
     /// Its own turns since it was opened.
     pub count: u16,
-    /// Its round words. They stay after a take or a close, until the next opening.
+    /// Its round words. They are zero after a take or a close.
     pub words: [u32; 80],
     /// Its block, as far as it has come.
     pub state: State,
@@ -163,7 +163,7 @@ impl Bench {
         Ok(turns.made)
     }
 
-    /// Takes the block of a finished lane, which is idle afterwards. Refusals: 10, 5, 7.
+    /// Takes the block of a finished lane, whose record is all zero afterwards. Refusals: 10, 5, 7.
     pub fn take(&mut self, lane: u32) -> Result<[u8; 16], Refusal> {
         let mut block = [0; 16];
         self.take_into(lane, &mut block)?;
@@ -175,7 +175,7 @@ impl Bench {
         calls::take(&mut self.lanes, self.last, lane, out)
     }
 
-    /// Makes a lane idle as after a take, whatever it was. Refusals: 10, 5.
+    /// Makes a lane idle, all zero, whatever it was. Refusals: 10, 5.
     pub fn close(&mut self, lane: u32) -> Result<(), Refusal> {
         calls::close(&mut self.lanes, self.last, lane)
     }

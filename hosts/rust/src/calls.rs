@@ -47,6 +47,18 @@ extern "C" {
         -> u32;
     fn gift_decrypt_by_key(key: *const u8, key_len: usize, block: *mut u8, block_len: usize)
         -> u32;
+    fn gift_plain_encrypt_by_key(
+        key: *const u8,
+        key_len: usize,
+        block: *mut u8,
+        block_len: usize,
+    ) -> u32;
+    fn gift_plain_decrypt_by_key(
+        key: *const u8,
+        key_len: usize,
+        block: *mut u8,
+        block_len: usize,
+    ) -> u32;
     fn gift_encrypt_by_words(
         words: *const u32,
         words_len: usize,
@@ -119,7 +131,7 @@ extern "C" {
 }
 
 /// The edition of the library that this crate declares, as GIFT_HOST_EDITION of include/gift_host.h.
-pub const EDITION: u32 = 1;
+pub const EDITION: u32 = 2;
 
 /// The edition of the library that is linked.
 pub fn edition() -> u32 {
@@ -158,6 +170,22 @@ pub fn encrypt_by_key(key: &[u8], block: &mut [u8]) -> Result<(), Refusal> {
 pub fn decrypt_by_key(key: &[u8], block: &mut [u8]) -> Result<(), Refusal> {
     linked();
     answer(unsafe { gift_decrypt_by_key(key.as_ptr(), key.len(), block.as_mut_ptr(), block.len()) })
+}
+
+/// Encrypts one block by a key, in place, by the plain engine: slow, and proved to answer as [`encrypt_by_key`]. Refusals: 1, 2.
+pub fn plain_encrypt_by_key(key: &[u8], block: &mut [u8]) -> Result<(), Refusal> {
+    linked();
+    answer(unsafe {
+        gift_plain_encrypt_by_key(key.as_ptr(), key.len(), block.as_mut_ptr(), block.len())
+    })
+}
+
+/// Decrypts one block by a key, in place, by the plain engine: slow, and proved to answer as [`decrypt_by_key`]. Refusals: 1, 2.
+pub fn plain_decrypt_by_key(key: &[u8], block: &mut [u8]) -> Result<(), Refusal> {
+    linked();
+    answer(unsafe {
+        gift_plain_decrypt_by_key(key.as_ptr(), key.len(), block.as_mut_ptr(), block.len())
+    })
 }
 
 /// Encrypts one block by 80 round words, in place: those of [`expand`], or any others. Refusals: 4, 2.

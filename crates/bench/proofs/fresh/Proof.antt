@@ -7,7 +7,7 @@ use Rattle.bench.proofs.fresh.Tie as tie
 
 returns : tie.Need-returns
 unfolding freshBench laneCount
-returns c = rw (c .fresh-lane .ensures)
+returns c = rw (c .idle-lane .ensures)
 
 pub fresh-spec : {M : Type 1} → statement M
 fresh-spec = tie.close (tie.spec (λ c κs. search needs) (λ c. search needs) returns)

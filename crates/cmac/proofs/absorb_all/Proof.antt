@@ -4,7 +4,6 @@ use mathlib.Core.List.{List}
 use Prim.Native.Nat.{ℕ, _+_, _-_, _*_, _/_, _≤_}
 use native.Mathlib.Omega.{arith}
 use lib.ListN.{length, take, drop, length-take, length-drop}
-use borrow.Author.Needs.{needs}
 use denote.Ref.{now}
 use Rattle.gift128.specs.Calls.{encryptedBy}
 use Rattle.cmac.specs.Standard.{_⊕_, before, blocks, chained}

@@ -1,7 +1,6 @@
 -- `cmac::byte_at`: the byte, or past the end 0, which is what `getD` gives there.
 use mathlib.Core.Path.{sym}
 use borrow.Author.Needs.{needs}
-use native.Mathlib.Omega.{arith}
 use lib.ListN.{List·getD-eq-default}
 use denote.Ref.{now}
 use Rattle.cmac.proofs.byte_at.Statement.{statement}

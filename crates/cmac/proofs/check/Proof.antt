@@ -1,11 +1,9 @@
 -- `cmac::check`: its number first, and if that is 0 the message's tag compared with the one given.
-use mathlib.Core.Path.{_≡_, refl, sym, ap, _∙_}
-use mathlib.Core.List.{List}
-use Prim.Native.Nat.{ℕ}
+use mathlib.Core.Path.{refl, sym, ap, _∙_}
 use borrow.Author.Needs.{needs}
 use denote.Ref.{now}
 use Rattle.answers.proofs.Outcome.{refuses, done}
-use Rattle.gift128.proofs.Answers.{key-passed}
+use Rattle.published.proofs.Calls.{key-passed}
 use Rattle.cmac.specs.Calls.{same}
 use Rattle.cmac.proofs.Pieces.{tagged}
 use Rattle.cmac.proofs.check.Statement.{statement}

@@ -1,5 +1,5 @@
 -- `cmac::last`: the key xored with the bytes, padded if they are not a full block.
-use mathlib.Core.Path.{_≡_, ap, ap₂, _∙_}
+use mathlib.Core.Path.{ap, ap₂, _∙_}
 use lib.ListN.{length}
 use borrow.Author.Needs.{needs}
 use denote.Ref.{now}

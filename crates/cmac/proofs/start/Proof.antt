@@ -1,5 +1,5 @@
 -- `cmac::start`: the words of a cipher made from the key, or eighty zeros, and nothing fed.
-use mathlib.Core.Path.{_≡_, refl, ap, _∙_}
+use mathlib.Core.Path.{ap, _∙_}
 use lib.ListN.{length, replicate}
 use borrow.Author.Needs.{needs}
 use denote.Ref.{now}

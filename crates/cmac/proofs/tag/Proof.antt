@@ -5,7 +5,6 @@ use Prim.Native.Nat.{ℕ}
 use native.Mathlib.Omega.{arith}
 use lib.ListN.{length, take}
 use borrow.Author.Needs.{needs}
-use denote.Ref.{now}
 use Rattle.answers.proofs.Outcome.{refuses, done}
 use Rattle.gift128.specs.Calls.{encryptedBy}
 use Rattle.cmac.specs.Standard.{_⊕_, lastBlock, chained}

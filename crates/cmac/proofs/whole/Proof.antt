@@ -1,11 +1,9 @@
 -- `cmac::whole`: its number first, and if that is 0 a start, one piece and the tag of the state.
-use mathlib.Core.Path.{_≡_, sym, _∙_}
-use mathlib.Core.List.{List, [], _∷_, append-nil}
-use Prim.Native.Nat.{ℕ}
+use mathlib.Core.Path.{sym, _∙_}
 use borrow.Author.Needs.{needs}
 use denote.Ref.{now}
 use Rattle.answers.proofs.Outcome.{refuses}
-use Rattle.gift128.proofs.Answers.{key-passed}
+use Rattle.published.proofs.Calls.{key-passed}
 use Rattle.cmac.proofs.Pieces.{in-one-piece}
 use Rattle.cmac.proofs.whole.Statement.{statement}
 use Rattle.cmac.proofs.whole.Tie as tie

@@ -6,8 +6,8 @@ use lib.ListN.{length}
 use borrow.Author.Needs.{needs}
 use denote.Ref.{now}
 use Rattle.answers.proofs.Outcome.{refuses, done}
+use Rattle.published.proofs.Calls.{key-passed}
 use Rattle.gift128.specs.Ways.{crossedBy}
-use Rattle.gift128.proofs.Answers.{key-passed}
 use Rattle.gift128.proofs.Blocks.{filled, crossed-key}
 use Rattle.gift128.proofs.by_key.Statement.{statement}
 use Rattle.gift128.proofs.by_key.Tie as tie

@@ -10,9 +10,9 @@ use Rattle.published.specs.Rounds.{Pair}
 use Rattle.published.specs.Gift128.{pairsOf, rounds128}
 use Rattle.published.proofs.Steps.{width128}
 use Rattle.published.proofs.Undone.{rounds-lt}
+use Rattle.published.proofs.Calls.{key-passed}
 use Rattle.quintuple.specs.Quintuple.{firstRound}
 use Rattle.gift128.specs.Calls.{afterOne}
-use Rattle.gift128.proofs.Answers.{key-passed}
 use Rattle.gift128.proofs.Blocks.{through, filled, first-of-key}
 use Rattle.gift128.proofs.one_round.Statement.{statement}
 use Rattle.gift128.proofs.one_round.Tie as tie

@@ -1,32 +1,38 @@
--- `packing::packing` reads the words and swaps their bits into place.
-use mathlib.Core.Path.{_≡_, sym, _∙_}
+-- `packing::packing` reads the halves, gathers their bits and takes the words from them.
+use mathlib.Core.Path.{_≡_, sym, ap, ap₂, _∙_}
 use mathlib.Core.List.{List}
 use Prim.Native.Nat.{ℕ}
-use native.Mathlib.Omega.{arith}
+use lib.Dec.{T, ltb, lit<}
 use lib.ListN.{length}
 use borrow.Author.Needs.{needs}
-use Rattle.published.specs.Bytes.{fromBytes, Bytes}
-use Rattle.packing.specs.Packing.{noWords}
-use Rattle.packing.specs.Inner.{halvesOf}
-use Rattle.packing.proofs.Halves.{reads}
+use Rattle.published.specs.Bytes.{fromBytes}
+use Rattle.published.specs.Packing.{word}
+use Rattle.primitives.specs.Packed.{stateOf}
+use Rattle.packing.specs.Inner.{reordered, gatheredFrom, wordFrom}
+use Rattle.packing.proofs.Halves.{words, reads}
 use Rattle.packing.proofs.Inverse.{packed-block, packed-other}
 use Rattle.packing.proofs.packing.Statement.{statement}
 use Rattle.packing.proofs.packing.Tie as tie
 
 returns : tie.Need-returns
-unfolding halvesOf
+unfolding stateOf
 returns c =
-    let w0 = c .before .before .before .before in
-    let bs : List ℕ = w0 .before .before .before .args .input .now in
-    let len : length bs ≡ 16 = w0 .before .if1 .taken in
-    let known : Bytes bs = λ i. w0 .before .before .shared-slice-known .given i .fits in
-    c .pack-words .ensures (fromBytes bs)
+    let w0 = c .before .before .before in
+    let l = w0 .before in
+    let h = l .before .before in
+    let bs : List ℕ = h .before .before .before .before .args .input .now in
+    let len : length bs ≡ 16 = h .before .before .if1 .taken in
+    let halves = reads bs (h .before .half-at .result) (l .before .half-at2 .result) len (h .before .half-at .ensures) (l .before .half-at2 .ensures) (search needs) (search needs) in
+    let high = h .gather .ensures ∙ ap (reordered gatheredFrom) (halves .0) in
+    let low = l .gather2 .ensures ∙ ap (reordered gatheredFrom) (halves .1) in
+    let is-word : (j : ℕ) → T (ltb j 4) → wordFrom (h .gather .result) (l .gather2 .result) j ≡ word 128 (fromBytes bs) j =
+    λ j t. ap₂ (λ (a b : ℕ). wordFrom a b j) high low ∙ words (fromBytes bs) j (lit< t) in
     (λ i.
     record {
-      s0 = (w0 .word-at .ensures ∙ reads bs len known 0 6 (omega arith)) i;
-      s1 = (c .before .before .before .word-at2 .ensures ∙ reads bs len known 1 4 (omega arith)) i;
-      s2 = (c .before .before .word-at3 .ensures ∙ reads bs len known 2 2 (omega arith)) i;
-      s3 = (c .before .word-at4 .ensures ∙ reads bs len known 3 0 (omega arith)) i;
+      s0 = (w0 .word .ensures ∙ is-word 0 tt) i;
+      s1 = (c .before .before .word2 .ensures ∙ is-word 1 tt) i;
+      s2 = (c .before .word3 .ensures ∙ is-word 2 tt) i;
+      s3 = (c .word4 .ensures ∙ is-word 3 tt) i;
     })
     ∙ sym (packed-block bs len)
 
@@ -36,4 +42,5 @@ returns-2 c = sym (packed-other (c .before .before .args .input .now) (c .if1 .l
 pub packing-spec : {M : Type 1} → statement M
 packing-spec =
     tie.close
-    (tie.spec (λ c κs. search needs) (λ c κs. search needs) (λ c κs. search needs) (λ c κs. search needs) (λ c κs. tt) returns returns-2)
+    (tie.spec (λ c κs. search needs) (λ c κs. search needs) (λ c κs. search needs) (λ c κs. search needs) (λ c κs. search needs) (λ c κs. search needs) (λ c κs. search needs)
+    (λ c κs. search needs) returns returns-2)

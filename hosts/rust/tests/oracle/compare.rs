@@ -30,11 +30,11 @@ impl Numbers {
     }
 }
 
-/// One key and one block, each way, by an instance and by the key.
+/// One key and one block, each way, by an instance and by the key, and by the key with the plain engine.
 fn compare(key: &[u8; 16], block: &[u8; 16]) {
     let cipher = Gift128::new(key);
     for way in WAYS {
-        let (mut by_instance, mut in_one_call) = (*block, *block);
+        let (mut by_instance, mut in_one_call, mut plainly) = (*block, *block, *block);
         match way {
             Direction::Encrypt => cipher.encrypt_block(&mut by_instance),
             Direction::Decrypt => cipher.decrypt_block(&mut by_instance),
@@ -44,9 +44,15 @@ fn compare(key: &[u8; 16], block: &[u8; 16]) {
             Direction::Decrypt => calls::decrypt_by_key(key, &mut in_one_call),
         }
         .unwrap();
+        match way {
+            Direction::Encrypt => calls::plain_encrypt_by_key(key, &mut plainly),
+            Direction::Decrypt => calls::plain_decrypt_by_key(key, &mut plainly),
+        }
+        .unwrap();
         let must = by_key(way, key, block);
         assert_eq!(by_instance, must, "{way:?} {block:02x?} by {key:02x?}");
         assert_eq!(in_one_call, must, "{way:?} {block:02x?} by {key:02x?}");
+        assert_eq!(plainly, must, "{way:?} {block:02x?} by {key:02x?}, plainly");
     }
 }
 

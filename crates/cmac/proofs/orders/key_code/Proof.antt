@@ -1,7 +1,7 @@
 -- `cmac::orders::key_code` tries 1, 2.
 use borrow.Author.Needs.{needs}
 use borrow.Author.Tests.{ne-eqb}
-use Rattle.gift128.specs.Calls.{keyCode}
+use Rattle.published.specs.Calls.{keyCode}
 use Rattle.cmac.proofs.orders.key_code.Statement.{statement}
 use Rattle.cmac.proofs.orders.key_code.Tie as tie
 

@@ -1,6 +1,6 @@
 -- `cmac::orders::length_code` tries 2.
 use borrow.Author.Tests.{ne-eqb}
-use Rattle.gift128.specs.Calls.{blockCode}
+use Rattle.published.specs.Calls.{blockCode}
 use Rattle.cmac.proofs.orders.length_code.Statement.{statement}
 use Rattle.cmac.proofs.orders.length_code.Tie as tie
 

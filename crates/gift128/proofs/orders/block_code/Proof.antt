@@ -1,6 +1,6 @@
 -- `gift128::orders::block_code` tries 2.
 use borrow.Author.Tests.{ne-eqb}
-use Rattle.gift128.specs.Calls.{blockCode}
+use Rattle.published.specs.Calls.{blockCode}
 use Rattle.gift128.proofs.orders.block_code.Statement.{statement}
 use Rattle.gift128.proofs.orders.block_code.Tie as tie
 

@@ -1,0 +1,9 @@
+-- The laws behind the plain engine's proofs.
+pub mod Nibbles
+pub mod Tables
+pub mod Moving
+pub mod Flips
+pub mod Adding
+pub mod Keys
+pub mod Bytes
+pub mod Rounds

@@ -1,0 +1,39 @@
+-- Inner: a state lent as its nibbles, nibble i at place i; the number that they make, and what a step of the cipher makes of them. And a key state of eight words.
+use mathlib.Core.Path.{_≡_}
+use mathlib.Core.Bool.{Bool, _&&_}
+use mathlib.Core.List.{List, [], _∷_}
+use Prim.Native.Nat.{ℕ, zero, suc, _*_, _/_, _%_, _≤_, _<_}
+use lib.Dec.{eqb}
+use lib.ListN.{length, getD}
+use Rattle.bits.specs.Digit.{digit, number}
+use Rattle.published.specs.Rounds.{Pair}
+
+unfoldable pub stateOf : List ℕ → ℕ
+stateOf ns = number 16 (length ns) (λ i. getD ns i 0)
+
+-- the k low nibbles of a state
+unfoldable pub nibblesOf : ℕ → ℕ → List ℕ
+nibblesOf zero s = []
+nibblesOf (suc k) s = digit 16 s 0 ∷ nibblesOf k (s / 16)
+
+-- the nibbles after a step that takes the width in bits and the state
+abbrev pub by : (ℕ → ℕ → ℕ) → List ℕ → List ℕ
+by step ns = nibblesOf (length ns) (step (4 * length ns) (stateOf ns))
+
+-- What the steps ask: nibbles, and as many as make a width that P is for, a multiple of 16 bits, with room for the constant and no more than 128.
+pub record Nibbles (ns : List ℕ) : Type 0 where
+  pub small : (i : ℕ) → getD ns i 0 < 16
+  pub fours : length ns % 4 ≡ 0
+  pub least : 8 ≤ length ns
+  pub most : length ns ≤ 32
+
+-- b, 0 or 1, at place q and nothing anywhere else
+abbrev pub oneAt : ℕ → ℕ → ℕ → Bool
+oneAt q b p = eqb p q && eqb b 1
+
+-- the key state that eight words of 16 bits make, ki at place i
+abbrev pub keyOf : List ℕ → ℕ
+keyOf k = number 65536 8 (λ i. getD k i 0)
+
+abbrev pub pair : (u v : ℕ) → Pair
+pair u v = record { u = u; v = v }
