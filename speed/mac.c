@@ -43,7 +43,7 @@ int main(void)
         key[i] = (uint8_t)(i * 17);
     printf("%10s %14s %14s %14s %8s %8s\n", "bytes", "block calls", "gift_mac", "64-byte pieces", "of them", "pieces");
     for (unsigned n = 0; n < sizeof lengths / sizeof *lengths; n++) {
-        uint64_t blocks = UINT64_MAX, whole = UINT64_MAX, pieces = UINT64_MAX;
+        uint64_t blocks = (uint64_t)-1, whole = blocks, pieces = blocks;
         for (unsigned pass = 0; pass < PASSES; pass++) {
             gift_mac_state state;
             uint64_t a = now(), b, c, d;
