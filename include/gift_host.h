@@ -32,7 +32,7 @@
 extern "C" {
 #endif
 
-#define GIFT_HOST_EDITION 2 /* of this header */
+#define GIFT_HOST_EDITION 3 /* of this header */
 
 /* The edition of the library that is linked. */
 uint32_t gift_host_edition(void);
@@ -47,12 +47,12 @@ uint32_t gift_host_edition(void);
 #define GIFT_BAD_BLOCK_LENGTH 2  /* a block, take buffer or tag is not of 16 bytes; many blocks: input not a multiple of 16 */
 #define GIFT_BAD_OUTPUT_LENGTH 3 /* the output is not as long as the input */
 #define GIFT_BAD_WORD_COUNT 4    /* the round words are not 80 */
-#define GIFT_BAD_LANE 5          /* a lane number above 3 */
+#define GIFT_BAD_LANE 5          /* a lane number above 15 */
 #define GIFT_LANE_NOT_IDLE 6     /* opening a lane that is not idle */
 #define GIFT_LANE_NOT_FINISHED 7 /* taking from a lane that is not finished */
 #define GIFT_TOO_MANY_TURNS 8    /* more than 1,024 turns asked */
 #define GIFT_BAD_DIRECTION 9     /* a direction that is neither 0 nor 1 */
-#define GIFT_BAD_BENCH 10        /* not four records, last served above 3, or a record that is not sound */
+#define GIFT_BAD_BENCH 10        /* not sixteen records, last served above 15, or a record that is not sound */
 #define GIFT_BAD_STATE 10        /* the same number: a gift_mac_state that claims more than 16 held bytes */
 
 /* ---- one block, in place ---- */
@@ -83,9 +83,9 @@ uint32_t gift_encrypt_blocks(const uint8_t *key, size_t key_len, const uint8_t *
 uint32_t gift_decrypt_blocks(const uint8_t *key, size_t key_len, const uint8_t *input, size_t input_len,
                              uint8_t *output, size_t output_len);
 
-/* ---- the bench: four lanes that take turns ----
+/* ---- the bench: sixteen lanes that take turns ----
  *
- * A bench is four lane records, lent as one array, and the number of the lane last served. A fresh one has all records
+ * A bench is sixteen lane records, lent as one array, and the number of the lane last served. A fresh one has all records
  * zero and the last served number GIFT_FRESH_LAST. The host keeps both. It passes the last served number by value;
  * only gift_turn moves it, and gives the new one back.
  *
@@ -96,8 +96,8 @@ uint32_t gift_decrypt_blocks(const uint8_t *key, size_t key_len, const uint8_t *
  * something else is written there.
  */
 
-#define GIFT_LANES 4           /* records of a bench */
-#define GIFT_FRESH_LAST 3      /* the last served number of a fresh bench */
+#define GIFT_LANES 16          /* records of a bench */
+#define GIFT_FRESH_LAST 15     /* the last served number of a fresh bench */
 #define GIFT_MOST_TURNS 1024   /* that one call may ask for */
 #define GIFT_TURNS_OF_A_LANE 8 /* from its opening until it is finished */
 
@@ -136,7 +136,7 @@ uint32_t gift_open_lane(gift_lane *lanes, size_t lanes_len, uint32_t last, uint3
 
 /* Makes as many turns as are asked for, or fewer if no lane runs any more. Each serves the first running lane after the last
  * served one, in cyclic order, by five rounds, and its eighth finishes it. Asking for 0 is done. An opened lane that is not
- * closed is finished no later than the 32nd turn made after its opening, whatever the other lanes do. Refusals: 10, 8. */
+ * closed is finished no later than the 128th turn made after its opening, whatever the other lanes do. Refusals: 10, 8. */
 gift_turns gift_turn(gift_lane *lanes, size_t lanes_len, uint32_t last, uint32_t asked);
 
 /* Writes the 16 bytes of a finished lane, whose record is all zero afterwards. Refusals: 10, 5, 7, 2. */

@@ -19,7 +19,7 @@ import sys
 
 from cipher_model import block, number, packed, round_done, round_undone, rounds_of
 
-LANES = 4
+LANES = 16
 SEED = 128
 CALLS = 3019
 BIG = 2 ** 32 - 1
@@ -243,7 +243,7 @@ class Script:
             direction = r.choice([0, 1]) if r.random() < 0.88 else r.choice([2, 3, 256, 257, BIG])
             self.open(self.any_lane(IDLE), direction, self.any_length(), self.any_length())
         elif kind == "turn":
-            self.turn(r.choice([0, 1, 1, 2, 3, 3, 7, 7, 8, 8, 15, 31, 32, 32, 100, 1023, 1024, 1025, 1026, 65536, 2 ** 31, BIG]))
+            self.turn(r.choice([0, 1, 1, 2, 3, 3, 7, 7, 8, 8, 15, 31, 32, 8 * LANES - 1, 8 * LANES, 100, 1023, 1024, 1025, 1026, 65536, 2 ** 31, BIG]))
         elif kind == "take":
             length = 16 if r.random() < 0.8 else r.choice([0, 15, 17])
             self.take(self.any_lane(FINISHED), length)
@@ -270,6 +270,12 @@ class Script:
         self.fresh()
         assert self.turn(1024) == (0, 0) and self.turn(1025) == (8, 0)
         assert self.open(0, block=15) == 2 and self.open(0, block=17) == 2
+        assert self.open(LANES - 1) == 0 and self.open(LANES) == 5 and self.take(LANES) == 5 and self.close(LANES) == 5 and self.close(LANES - 1) == 0
+        for last, code in (LANES - 1, 0), (LANES, 10):
+            self.bench.last = last
+            self.write("put", {})
+            assert self.turn(1)[0] == self.close(0) == code
+        self.fresh()
 
     def any_record(self):
         r = self.random

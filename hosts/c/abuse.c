@@ -391,7 +391,7 @@ static void on_the_bench(void)
         unsound++;
     }
     if (bad() && below(4) == 0) {
-        static const size_t others[] = {0, 1, LANES / 2, LANES - 1, LANES + 1, LANES + 2};
+        static const size_t others[] = {0, 1, 4, LANES - 1, LANES + 1, LANES + 2};
         lanes_len = others[below(6)];
         slices++;
     }

@@ -215,7 +215,7 @@ static bits unpacked(gift_state state)
 
 /* ---- the bench: what each call does where nothing refuses it ---- */
 
-#define LANES 4 /* as document 01 has it */
+#define LANES 16 /* as document 02 has it, 2026-05 */
 
 static void model_open(gift_lane *lane, uint32_t direction, const uint8_t *key, const uint8_t *block)
 {

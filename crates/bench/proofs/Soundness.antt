@@ -1,4 +1,4 @@
--- A sound bench, as facts: four records, one of them last served, each of them sound; and what keeps it so.
+-- A sound bench, as facts: as many records as lanes, one of them last served, each of them sound; and what keeps it so.
 use mathlib.Core.Path.{_≡_, refl, sym, ap, _∙_}
 use mathlib.Core.Bool.{Bool, true, false, _&&_}
 use mathlib.Core.List.{List, [], _∷_, map}

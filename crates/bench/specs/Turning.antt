@@ -11,7 +11,7 @@ use Rattle.bench.specs.declared.Bench.{Bench}
 
 -- how many lanes a bench has
 unfoldable pub laneCount : ℕ
-laneCount = 4
+laneCount = 16
 
 -- lane i of a list of records
 abbrev pub laneAt : List Lane → ℕ → Lane

@@ -21,7 +21,7 @@ ghost use Rattle.bench.specs.Turning.{laneCount, laneAt, after, seek, ch
 ghost use Rattle.bench.specs.Calls.{freshBench, allSound, soundBench, put, openOf, turnOf, takeOf, takenBytes, closeOf};
 
 // How many lanes a bench has, and the last of them.
-pub const LANES: usize = 4;
+pub const LANES: usize = 16;
 
 const LAST: usize = LANES - 1;
 

@@ -109,7 +109,7 @@ module _ (o : Opening) (ok : Accepted o) where
   unfolding lacks opened
   left-lacks = ap lacks left-lane
 
-  -- among the first 32 turns made on the bench since, eight are the lane's own
+  -- among the first 128 turns made on the bench since, eight are the lane's own
   pub in-time : Unclosed o → InTime o
   in-time still = waits (o .lane) (left o) (o .since) 8 left-sound (did .lane-lt) left-lacks still
 
@@ -135,7 +135,7 @@ module _ (o : Opening) (ok : Accepted o) where
     unclosed : Unclosed o
     unclosed = never-closed (o .lane) (o .since) (left o) kept
 
-    -- once 32 turns were made on the bench, the lane's record is finished
+    -- once 128 turns were made on the bench, the lane's record is finished
     pub finished-in-time : laneCount * 8 ≤ length (made o) → laneAt (end o .lanes) (o .lane) .phase ≡ finished
     unfolding opened
     finished-in-time h =

@@ -96,7 +96,7 @@ pub record Stands (o : Opening) : Type 0 where
       → (takeOf (end o) (o .lane) out .code ≡ DONE) × (takenBytes (end o) (o .lane) out ≡ answer (o .direction) (o .key) (o .block))
   pub only-ready : (out : List ℕ) → takeOf (end o) (o .lane) out .code ≡ DONE → own o ≡ 8
 
--- Of a lane that was opened and not closed: among the first 32 turns made on the bench since, eight are its own.
+-- Of a lane that was opened and not closed: among the first 128 turns made on the bench since, eight for each lane, eight are its own.
 abbrev pub InTime : Opening → Type 0
 InTime o = laneCount * 8 ≤ length (made o) → 8 ≤ times (o .lane) (take (laneCount * 8) (made o))
 

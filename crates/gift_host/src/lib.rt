@@ -16,7 +16,7 @@ ghost use Rattle.bench_lent.specs.Lent.{Opens, Serves, Takes, Closes};
 ghost use Rattle.gift_host.specs.Edition.{edition};
 
 // The edition of records, arguments and counts that this library has. GIFT_HOST_EDITION in the header is the one that a host was compiled for.
-const EDITION: u32 = 2;
+const EDITION: u32 = 3;
 
 #[no_mangle]
 pub extern "C" fn gift_host_edition() -> u32

@@ -19,12 +19,11 @@ fn between_slices(bench: &mut Bench, mut apply: impl FnMut(u32, [u8; 16])) -> Re
 
 fn main() -> Result<(), Refusal> {
     let key = *b"sixteen byte key";
-    let settings = [
-        *b"lamp=on  dim=040",
-        *b"pump=off rpm=000",
-        *b"door=shut bolt=1",
-        *b"heat=19C fan=low",
-    ];
+    // one setting for each lane
+    let settings: [[u8; 16]; Bench::LANES as usize] = core::array::from_fn(|guest| {
+        let text = format!("pier {guest:02} fare {:03}", 150 + guest * 35 % 200);
+        text.into_bytes().try_into().unwrap()
+    });
     let mut blocks = settings;
     Gift128::new(&key).encrypt_blocks(&mut blocks);
 
@@ -42,7 +41,7 @@ fn main() -> Result<(), Refusal> {
             assert_eq!(setting, settings[lane as usize]);
             taken += 1;
         })?;
-        if taken == 3 {
+        if taken == settings.len() - 1 {
             break;
         }
     }

@@ -6,7 +6,7 @@ use core::mem::offset_of;
 use crate::{calls, Refusal};
 
 /// How many lanes a bench has.
-const LANES: usize = 4;
+const LANES: usize = 16;
 
 /// What a lane is opened for.
 #[derive(Clone, Copy, Debug, PartialEq, Eq, Hash)]
@@ -91,7 +91,7 @@ impl fmt::Debug for Lane {
 
 /// [`Bench::LANES`] lanes, and the number of the one last served.
 ///
-/// An opened lane that is not closed is finished no later than the 32nd turn made after its opening, whatever the other lanes do. On a refusal the bench is
+/// An opened lane that is not closed is finished no later than the 128th turn made after its opening, whatever the other lanes do. On a refusal the bench is
 /// as it was.
 #[derive(Clone, Debug, PartialEq, Eq)]
 pub struct Bench {

@@ -131,7 +131,7 @@ extern "C" {
 }
 
 /// The edition of the library that this crate declares, as GIFT_HOST_EDITION of include/gift_host.h.
-pub const EDITION: u32 = 2;
+pub const EDITION: u32 = 3;
 
 /// The edition of the library that is linked.
 pub fn edition() -> u32 {

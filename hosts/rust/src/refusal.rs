@@ -14,7 +14,7 @@ pub enum Refusal {
     BadOutputLength = 3,
     /// 4: the round words are not 80.
     BadWordCount = 4,
-    /// 5: a lane number above 3.
+    /// 5: a lane number above 15.
     BadLane = 5,
     /// 6: opening a lane that is not idle.
     LaneNotIdle = 6,
@@ -24,7 +24,7 @@ pub enum Refusal {
     TooManyTurns = 8,
     /// 9: a direction that is neither 0 nor 1.
     BadDirection = 9,
-    /// 10: not four records, last served above 3, or a record that is not sound; or a [`crate::MacState`] that claims more than 16 held bytes.
+    /// 10: not sixteen records, last served above 15, or a record that is not sound; or a [`crate::MacState`] that claims more than 16 held bytes.
     BadBench = 10,
 }
 

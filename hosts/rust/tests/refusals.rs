@@ -108,7 +108,7 @@ fn lengths_of_many_blocks() {
     }
 }
 
-/// Lane 0 finished, lane 1 running, lanes 2 and 3 idle.
+/// Lane 0 finished, lane 1 running, the others idle.
 fn some_bench() -> Bench {
     let mut bench = Bench::new();
     bench
@@ -193,7 +193,7 @@ fn refusals_of_lent_records() {
     for direction in [2, 3, 255, 256, 257, 1 << 31, u32::MAX] {
         let mut lanes = *bench.records();
         assert_eq!(
-            calls::open_lane(&mut lanes, 3, 9, direction, SHORT, LONG),
+            calls::open_lane(&mut lanes, 3, Bench::LANES, direction, SHORT, LONG),
             Err(BadLane)
         );
         assert_eq!(
@@ -206,16 +206,16 @@ fn refusals_of_lent_records() {
         );
         assert_eq!(lanes, *bench.records());
     }
-    for count in [0, 1, 3, 5, 8] {
+    for count in [0, 1, 4, 15, 17, 32] {
         let lent = vec![Lane::FRESH; count];
         let mut lanes = lent.clone();
         assert_eq!(
-            calls::open_lane(&mut lanes, 3, 9, 9, SHORT, LONG),
+            calls::open_lane(&mut lanes, 3, Bench::LANES, 9, SHORT, LONG),
             Err(BadBench)
         );
         assert_eq!(calls::turn(&mut lanes, 3, 5000), Err(BadBench));
-        assert_eq!(calls::take(&mut lanes, 3, 9, &mut [0; 17]), Err(BadBench));
-        assert_eq!(calls::close(&mut lanes, 3, 9), Err(BadBench));
+        assert_eq!(calls::take(&mut lanes, 3, Bench::LANES, &mut [0; 17]), Err(BadBench));
+        assert_eq!(calls::close(&mut lanes, 3, Bench::LANES), Err(BadBench));
         assert_eq!(lanes, lent);
     }
 }
@@ -242,12 +242,12 @@ fn unsound_benches() {
                     if unsound(lanes[place]) {
                         refusals += 1;
                         assert_eq!(
-                            refused(&bench, |b| b.open(9, Direction::Encrypt, SHORT, LONG)),
+                            refused(&bench, |b| b.open(Bench::LANES, Direction::Encrypt, SHORT, LONG)),
                             BadBench
                         );
                         assert_eq!(refused(&bench, |b| b.turn(5000)), BadBench);
-                        assert_eq!(refused(&bench, |b| b.take(9)), BadBench);
-                        assert_eq!(refused(&bench, |b| b.close(9)), BadBench);
+                        assert_eq!(refused(&bench, |b| b.take(Bench::LANES)), BadBench);
+                        assert_eq!(refused(&bench, |b| b.close(Bench::LANES)), BadBench);
                     } else {
                         assert!(
                             bench.clone().turn(0) == Ok(0)
@@ -258,7 +258,7 @@ fn unsound_benches() {
             }
         }
     }
-    assert!(refusals > 300);
+    assert!(refusals > 300 * Bench::LANES / 4);
     for last in [Bench::LANES, Bench::LANES + 1, 255, 256, 1 << 31, u32::MAX] {
         let bench = Bench::from_records(*some_bench().records(), last);
         assert_eq!(
@@ -301,19 +301,21 @@ fn idle_records_are_all_zero() {
 fn small_facts() {
     let open_all = || {
         let mut bench = Bench::new();
-        (0..4).for_each(|lane| bench.open(lane, Direction::Encrypt, KEY, BLOCK).unwrap());
+        (0..Bench::LANES).for_each(|lane| bench.open(lane, Direction::Encrypt, KEY, BLOCK).unwrap());
         bench
     };
     let phases = |bench: &Bench| bench.records().map(|lane| lane.phase);
+    let mut one_runs = [2; 16];
+    one_runs[15] = 1;
     let mut bench = open_all();
     assert_eq!(
-        (bench.turn(31), phases(&bench), bench.last_served()),
-        (Ok(31), [2, 2, 2, 1], 2)
+        (bench.turn(127), phases(&bench), bench.last_served()),
+        (Ok(127), one_runs, 14)
     );
     let mut bench = open_all();
     assert_eq!(
-        (bench.turn(32), phases(&bench), bench.last_served()),
-        (Ok(32), [2, 2, 2, 2], 3)
+        (bench.turn(128), phases(&bench), bench.last_served()),
+        (Ok(128), [2; 16], 15)
     );
     assert_eq!(
         (bench.turn(1), bench.turn(1024), bench.turn(0)),
@@ -321,7 +323,7 @@ fn small_facts() {
     );
 
     let mut step_by_step = open_all();
-    for turns in 0..=32 {
+    for turns in 0..=128 {
         let mut at_once = open_all();
         assert_eq!(at_once.turn(turns), Ok(turns));
         assert_eq!(at_once, step_by_step);

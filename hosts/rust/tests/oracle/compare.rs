@@ -136,10 +136,10 @@ fn many_blocks() {
 fn lanes_of_a_bench() {
     let mut numbers = Numbers(5);
     let mut bench = Bench::new();
-    let mut openings = [None; 4];
+    let mut openings = [None; Bench::LANES as usize];
     let mut taken = 0;
     for _ in 0..30_000 {
-        let lane = numbers.below(4);
+        let lane = numbers.below(Bench::LANES);
         let opening = &mut openings[lane as usize];
         match numbers.below(12) {
             0..=3 => {
