@@ -2,7 +2,8 @@
 """CMAC, written from NIST SP 800-38B alone; it shares nothing with the code. The cipher is a function from block to block.
 
     oracle/cmac_model.py                    checks the model: over AES-128 the standard's own vectors; over GIFT-128 every cutting of short messages
-    oracle/cmac_model.py --cases            writes cases with their answers, in the form that oracle/README.md describes
+    oracle/cmac_model.py --store            writes its part of crates/replay/stdin, cases with their answers in the form that README.md beside this file
+                                            describes, and crates/replay/stdout anew
     oracle/cmac_model.py --library FILE     holds a shared library that has the C names of include/gift_host.h to the model: thousands of messages of
                                             0 to 200 bytes, some of 64 KiB, cut anywhere, and every refusal
 
@@ -14,8 +15,10 @@ import sys
 
 import cipher_model
 from cipher_model import TABLE, bit, block, moved, number, rounds_of
+from stored import store
 
 SEED = 38
+FIRST = "# Calls of CMAC, made by 'oracle/cmac_model.py --store' from NIST SP 800-38B."
 
 
 def xor(a, b):
@@ -194,7 +197,7 @@ def case_check(key, message, tag):
 
 def case_start(key):
     code, s = started(key)
-    return "cmac_start key=%s number=%x %s %s" % (text(key), code, "gives=" + 80 * "00000000" if s.key is None else "of=" + s.key.hex(), state_fields(s, "_after"))
+    return "cmac_start key=%s number=%x %s %s" % (text(key), code, "words_after=" + 80 * "00000000" if s.key is None else "key_after=" + s.key.hex(), state_fields(s, "_after"))
 
 
 def case_piece(s, piece):
@@ -361,8 +364,8 @@ def held_to_model(file):
 
 
 def main():
-    if sys.argv[1:] == ["--cases"]:
-        print("\n".join(cases()))
+    if sys.argv[1:] == ["--store"]:
+        store(FIRST, cases())
     elif sys.argv[1:2] == ["--library"] and len(sys.argv) == 3:
         held_to_model(sys.argv[2])
     else:
