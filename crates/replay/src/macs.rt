@@ -108,10 +108,11 @@ fn started(line: &[u8]) -> bool {
 // A piece leaves the round words.
 fn fed(line: &[u8]) -> bool {
     let s = state(line);
+    let words = s.words;
     let p = field(line, b"piece");
     let piece = p.bytes;
     let f = cmac::piece(s, front(&piece, p.n));
-    says_number(line, f.code) & says_state(line, f.state, s.words)
+    says_number(line, f.code) & says_state(line, f.state, words)
 }
 
 // Of a whole message, or of a state.
