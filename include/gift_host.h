@@ -2,8 +2,8 @@
  *
  * Every function is proved to answer as said here for all lengths, numbers, bytes and records. There is nothing to set up
  * or tear down, and nothing is kept between calls: all memory is the host's, and is lent for the length of one call. Calls
- * on different memory may run at the same time. The library takes no heap and some one KiB of stack (18 KiB where the plain
- * engine is called), and calls nothing but memcpy and memset.
+ * on different memory may run at the same time. The library takes no heap and some one KiB of stack (2.3 KiB for CMAC,
+ * 18 KiB where the plain engine is called), and calls nothing but memcpy and memset.
  *
  * A call answers 0 (GIFT_DONE) or the number of a refusal. Refusals are tried in the order given with each function, and
  * the first that applies is the one given. After a refusal everything lent is as it was before the call.
@@ -44,7 +44,7 @@ uint32_t gift_host_edition(void);
 /* The numbers given back. */
 #define GIFT_DONE 0
 #define GIFT_BAD_KEY_LENGTH 1    /* the key is not of 16 bytes */
-#define GIFT_BAD_BLOCK_LENGTH 2  /* a block or take buffer is not of 16 bytes; many blocks: input not a multiple of 16 */
+#define GIFT_BAD_BLOCK_LENGTH 2  /* a block, take buffer or tag is not of 16 bytes; many blocks: input not a multiple of 16 */
 #define GIFT_BAD_OUTPUT_LENGTH 3 /* the output is not as long as the input */
 #define GIFT_BAD_WORD_COUNT 4    /* the round words are not 80 */
 #define GIFT_BAD_LANE 5          /* a lane number above 15 */
@@ -53,6 +53,7 @@ uint32_t gift_host_edition(void);
 #define GIFT_TOO_MANY_TURNS 8    /* more than 1,024 turns asked */
 #define GIFT_BAD_DIRECTION 9     /* a direction that is neither 0 nor 1 */
 #define GIFT_BAD_BENCH 10        /* not sixteen records, last served above 15, or a record that is not sound */
+#define GIFT_BAD_STATE 10        /* the same number: a gift_mac_state that claims more than 16 held bytes */
 #define GIFT_NOT_THE_OWNER 11    /* opening with owner 0; taking from or closing a busy lane with another number than its owner's */
 
 /* ---- one block, in place ---- */
@@ -164,6 +165,47 @@ uint32_t gift_take(gift_lane *lanes, size_t lanes_len, uint32_t last, uint32_t l
  * does it. Refusals: 10, 5, 11. */
 uint32_t gift_close(gift_lane *lanes, size_t lanes_len, uint32_t last, uint32_t lane, uint16_t owner);
 
+/* ---- CMAC (NIST SP 800-38B) over GIFT-128: a tag of 16 bytes ---- */
+
+#define GIFT_TAG_SIZE 16 /* bytes of a tag */
+
+/* What the host keeps between pieces: 356 bytes, aligned to 4, none of them padding. It goes in by value and comes back. */
+typedef struct gift_mac_state {
+    uint32_t words[GIFT_WORDS]; /* at 0: round words */
+    uint8_t chain[16];          /* at 320: the chaining block */
+    uint8_t held[16];           /* at 336: bytes held back, a full block too until more comes; zero from `count` on, as the library leaves it */
+    uint32_t count;             /* at 352: how many are held, 0 to 16; bytes past them do not count */
+} gift_mac_state;
+
+/* What a start or a piece tells: the state from now on. */
+typedef struct gift_mac_told {
+    uint32_t code; /* 0, or the refusal */
+    gift_mac_state state;
+} gift_mac_told;
+
+/* What a check tells. */
+typedef struct gift_mac_checked {
+    uint32_t code; /* 0, or the refusal */
+    uint8_t yes;   /* 1 if all 16 bytes are the message's tag, else 0; on a refusal 0 */
+} gift_mac_checked;
+
+/* Writes the tag of a whole message, of any length. Refusals: 1, 2. */
+uint32_t gift_mac(const uint8_t *key, size_t key_len, const uint8_t *message, size_t message_len, uint8_t *tag, size_t tag_len);
+
+/* Whether a tag is the message's. It looks at all 16 bytes whatever they are. Refusals: 1, 2. */
+gift_mac_checked gift_mac_check(const uint8_t *key, size_t key_len, const uint8_t *message, size_t message_len, const uint8_t *tag,
+                                size_t tag_len);
+
+/* A message in pieces, cut anywhere: start, as many pieces as there are, empty ones too, and the tag of the state, which is the whole message's.
+ * A start by a refused key gives a state that is all zero. Refusal: 1. */
+gift_mac_told gift_mac_start(const uint8_t *key, size_t key_len);
+
+/* `state = gift_mac_piece(state, piece, len).state`; a refused piece gives the state back as it was. Refusal: 10. */
+gift_mac_told gift_mac_piece(gift_mac_state state, const uint8_t *piece, size_t piece_len);
+
+/* Writes the tag of what was fed so far. It ends nothing: the state may be fed on. Refusals: 10, 2. */
+uint32_t gift_mac_tag(gift_mac_state state, uint8_t *tag, size_t tag_len);
+
 /* The layout above, held to the compiler's where it can say so. */
 #if defined(__cplusplus) && __cplusplus >= 201103L
 #define GIFT_HOST_HOLDS(test) static_assert(test, #test)
@@ -174,12 +216,19 @@ uint32_t gift_close(gift_lane *lanes, size_t lanes_len, uint32_t last, uint32_t 
 GIFT_HOST_HOLDS(sizeof(gift_state) == 16);
 GIFT_HOST_HOLDS(sizeof(gift_lane) == 344);
 GIFT_HOST_HOLDS(sizeof(gift_turns) == 12);
+GIFT_HOST_HOLDS(sizeof(gift_mac_state) == 356);
+GIFT_HOST_HOLDS(sizeof(gift_mac_told) == 360);
+GIFT_HOST_HOLDS(sizeof(gift_mac_checked) == 8);
 #ifdef offsetof
 GIFT_HOST_HOLDS(offsetof(gift_lane, direction) == 1);
 GIFT_HOST_HOLDS(offsetof(gift_lane, owner) == 2);
 GIFT_HOST_HOLDS(offsetof(gift_lane, count) == 4);
 GIFT_HOST_HOLDS(offsetof(gift_lane, words) == 8);
 GIFT_HOST_HOLDS(offsetof(gift_lane, state) == 328);
+GIFT_HOST_HOLDS(offsetof(gift_mac_state, chain) == 320);
+GIFT_HOST_HOLDS(offsetof(gift_mac_state, held) == 336);
+GIFT_HOST_HOLDS(offsetof(gift_mac_state, count) == 352);
+GIFT_HOST_HOLDS(offsetof(gift_mac_checked, yes) == 4);
 #endif
 #undef GIFT_HOST_HOLDS
 #endif

@@ -3,7 +3,7 @@
 
     oracle/bench_model.py
 
-writes the last part of crates/replay/stdin, the calls with what must come of each, and crates/replay/stdout anew. A lane keeps the published state after 5t
+writes its part of crates/replay/stdin, the calls with what must come of each, and crates/replay/stdout anew. A lane keeps the published state after 5t
 rounds done or undone, and never a fixsliced word. The list of calls depends on fixed seeds alone, and on how many lanes a bench has.
 
     oracle/bench_model.py --wrong
@@ -12,12 +12,11 @@ prints cases that are all wrong, each by one digit: in each field of each record
 README.md beside this file says how a case is written.
 """
 import collections
-import os
 import random
-import subprocess
 import sys
 
 from cipher_model import block, number, packed, round_done, round_undone, rounds_of
+from stored import store
 
 LANES = 16
 SEED = 128
@@ -455,13 +454,7 @@ def main():
         print("%-9s %4d: " % (call, script.kinds[call]) + ", ".join("number %d: %d" % (n, script.both[call, n]) for n in order))
         assert all(script.both[call, n] for n in order)
     print("fresh     %4d" % script.kinds["fresh"])
-    os.chdir(os.path.join(os.path.dirname(os.path.abspath(__file__)), ".."))
-    stored = "crates/replay/stdin"
-    kept = open(stored).read().split(FIRST + "\n")[0]
-    with open(stored, "w") as f:
-        f.write(kept + "\n".join([FIRST, *script.lines]) + "\n")
-    with open("crates/replay/stdout", "w") as f:
-        subprocess.run(["oracle/expected", stored], stdout=f, check=True)
+    store(FIRST, script.lines)
     print("%d calls, records put by the host %d times, %d bytes" % (script.calls(), script.kinds["put"], sum(len(l.encode()) + 1 for l in script.lines)))
 
 

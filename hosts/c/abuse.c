@@ -1,5 +1,5 @@
 /* A random walk of 100,000 calls over everything that the library exports, with good and bad arguments and with guests that steal, and after it every bit
- * of an idle record set alone. Each call is held to model.h: the number given back, every byte, word and record lent, and every byte round them, so that a record is looked
+ * of an idle record set alone, then one of CMAC. Each call is held to model.h: the number given back, every byte, word and record lent, and every byte round them, so that a record is looked
  * at byte by byte after each take and close. The same calls on each run. Exit status 1 if anything differs. */
 #include <stdio.h>
 #include <string.h>
@@ -7,12 +7,13 @@
 #include "model.h"
 
 #define CALLS 100000
+#define MAC_CALLS 20000 /* of CMAC, after those */
 #define RECORDS (LANES + 2) /* of which the first are a bench */
 
 /* The header's names are document 01's numbers. */
 _Static_assert(GIFT_DONE == 0 && GIFT_BAD_KEY_LENGTH == 1 && GIFT_BAD_BLOCK_LENGTH == 2 && GIFT_BAD_OUTPUT_LENGTH == 3, "0 to 3");
 _Static_assert(GIFT_BAD_WORD_COUNT == 4 && GIFT_BAD_LANE == 5 && GIFT_LANE_NOT_IDLE == 6 && GIFT_LANE_NOT_FINISHED == 7, "4 to 7");
-_Static_assert(GIFT_TOO_MANY_TURNS == 8 && GIFT_BAD_DIRECTION == 9 && GIFT_BAD_BENCH == 10 && GIFT_NOT_THE_OWNER == 11, "8 to 11");
+_Static_assert(GIFT_TOO_MANY_TURNS == 8 && GIFT_BAD_DIRECTION == 9 && GIFT_BAD_BENCH == 10 && GIFT_BAD_STATE == 10 && GIFT_NOT_THE_OWNER == 11, "8 to 11");
 _Static_assert(GIFT_IDLE == 0 && GIFT_RUNNING == 1 && GIFT_FINISHED == 2 && GIFT_ENCRYPT == 0 && GIFT_DECRYPT == 1, "phases and directions");
 _Static_assert(GIFT_BLOCK_SIZE == 16 && GIFT_KEY_SIZE == 16 && GIFT_WORDS == 80 && GIFT_LANES == LANES && GIFT_FRESH_LAST == LANES - 1, "sizes");
 _Static_assert(GIFT_MOST_TURNS == 1024 && GIFT_TURNS_OF_A_LANE == 8, "turns");
@@ -119,12 +120,14 @@ static uint8_t *expected(room *r)
 
 enum {
     ENCRYPT_BY_KEY, DECRYPT_BY_KEY, ENCRYPT_BY_WORDS, DECRYPT_BY_WORDS, EXPAND, ENCRYPT_BLOCKS,
-    DECRYPT_BLOCKS, OPEN_LANE, TURN, TAKE, CLOSE, PLAIN_ENCRYPT, PLAIN_DECRYPT, KINDS
+    DECRYPT_BLOCKS, OPEN_LANE, TURN, TAKE, CLOSE, MAC, MAC_CHECK, MAC_START, MAC_PIECE, MAC_TAG,
+    PLAIN_ENCRYPT, PLAIN_DECRYPT, KINDS
 };
 
 static const char *const names[KINDS] = {
     "gift_encrypt_by_key", "gift_decrypt_by_key", "gift_encrypt_by_words", "gift_decrypt_by_words", "gift_expand", "gift_encrypt_blocks",
     "gift_decrypt_blocks", "gift_open_lane", "gift_turn", "gift_take", "gift_close",
+    "gift_mac", "gift_mac_check", "gift_mac_start", "gift_mac_piece", "gift_mac_tag",
     "gift_plain_encrypt_by_key", "gift_plain_decrypt_by_key",
 };
 
@@ -447,6 +450,169 @@ static void every_bit(void)
     }
 }
 
+/* ---- CMAC ---- */
+
+static gift_mac_state mac;               /* as the model has it */
+static uint8_t fed[4096], mac_key[16];   /* all that was fed to it since its start, and by which key */
+static size_t fed_len;
+static int by_a_key;                     /* and not a state of the host's making */
+static unsigned yeses, whole_tags;
+
+static void whole(void)
+{
+    uint32_t number, must;
+    lend(&keys, "key", length(16), 1);
+    lend(&blocks, "message", length(below(100)), 1);
+    lend(&outputs, "tag", length(16), 1);
+    must = key_number(keys.length, outputs.length);
+    if (must == 0)
+        model_mac(expected(&keys), expected(&blocks), blocks.length, expected(&outputs));
+    number = gift_mac(part(&keys), keys.length, part(&blocks), blocks.length, part(&outputs), outputs.length);
+    hold(MAC, number, must);
+}
+
+/* The message's tag in half of the calls, and one that differs in one bit, or all of it, in the others. */
+static void check(void)
+{
+    uint32_t must, yes;
+    uint8_t tag[16];
+    gift_mac_checked told;
+    lend(&keys, "key", length(16), 1);
+    lend(&blocks, "message", length(below(100)), 1);
+    lend(&outputs, "tag", length(16), 1);
+    must = key_number(keys.length, outputs.length);
+    if (must == 0) {
+        model_mac(expected(&keys), expected(&blocks), blocks.length, tag);
+        if (below(4) != 0) {
+            memcpy(expected(&outputs), tag, 16);
+            if (below(2) == 0)
+                expected(&outputs)[below(16)] ^= (uint8_t)(1u << below(8));
+            memcpy(part(&outputs), expected(&outputs), 16);
+        }
+    }
+    yes = must == 0 && memcmp(expected(&outputs), tag, 16) == 0;
+    told = gift_mac_check(part(&keys), keys.length, part(&blocks), blocks.length, part(&outputs), outputs.length);
+    hold(MAC_CHECK, told.code, must);
+    yeses += yes;
+    if (told.yes != yes && differs(MAC_CHECK))
+        printf("it says %u and must say %u\n", told.yes, yes);
+}
+
+static void hold_state(unsigned kind, gift_mac_state told)
+{
+    if (memcmp(&told, &mac, sizeof mac) != 0 && differs(kind))
+        printf("the state given back is not what it must be\n");
+}
+
+static void start(void)
+{
+    gift_mac_told told;
+    uint32_t must;
+    lend(&keys, "key", length(16), 1);
+    must = keys.length != 16;
+    model_start(&mac, must == 0 ? expected(&keys) : NULL);
+    fed_len = 0;
+    by_a_key = must == 0;
+    if (by_a_key)
+        memcpy(mac_key, expected(&keys), 16);
+    told = gift_mac_start(part(&keys), keys.length);
+    hold(MAC_START, told.code, must);
+    hold_state(MAC_START, told.state);
+}
+
+static void piece(void)
+{
+    gift_mac_state given = mac;
+    gift_mac_told told;
+    uint32_t must;
+    lend(&blocks, "piece", below(4) ? below(40) : 16 * below(5), 1);
+    must = state_number(&mac);
+    if (must == 0) {
+        model_piece(&mac, expected(&blocks), blocks.length);
+        if (fed_len + blocks.length > sizeof fed)
+            by_a_key = 0;
+        if (by_a_key) {
+            memcpy(fed + fed_len, expected(&blocks), blocks.length);
+            fed_len += blocks.length;
+        }
+    }
+    told = gift_mac_piece(given, part(&blocks), blocks.length);
+    hold(MAC_PIECE, told.code, must);
+    hold_state(MAC_PIECE, told.state);
+}
+
+static void tag_of_state(void)
+{
+    uint32_t number, must;
+    uint8_t tag[16];
+    lend(&outputs, "tag", length(16), 1);
+    must = tag_number(&mac, outputs.length);
+    if (must == 0)
+        model_tag(&mac, expected(&outputs));
+    number = gift_mac_tag(mac, part(&outputs), outputs.length);
+    hold(MAC_TAG, number, must);
+    if (must == 0 && by_a_key) {
+        whole_tags++;
+        model_mac(mac_key, fed, fed_len, tag);
+        if (memcmp(part(&outputs), tag, 16) != 0 && differs(MAC_TAG))
+            printf("it is not the tag of the whole message\n");
+    }
+}
+
+/* Tags that oracle/cmac_model.py gave, of the first bytes of 00 01 02 .. by the key 00 .. 0f. */
+static unsigned known_tags(void)
+{
+    static const struct {
+        size_t length;
+        uint8_t tag[16];
+    } known[] = {
+        {0, {0x08, 0x42, 0x1a, 0x6b, 0x56, 0x6b, 0xeb, 0x7d, 0x6e, 0x82, 0x14, 0x3a, 0x56, 0x89, 0x35, 0xb1}},
+        {1, {0x0b, 0x8e, 0x08, 0x0d, 0xdd, 0xfd, 0x5b, 0x31, 0x1c, 0xbb, 0xc4, 0x32, 0x91, 0xff, 0x1d, 0xf9}},
+        {15, {0xfe, 0xa0, 0xb5, 0xe3, 0x6c, 0x09, 0x3b, 0x60, 0xa5, 0x61, 0x64, 0x19, 0xa8, 0xc8, 0xad, 0xb0}},
+        {16, {0x04, 0x1a, 0xd8, 0xb7, 0x96, 0x41, 0x2d, 0x03, 0xe1, 0x54, 0xa3, 0xf0, 0xa9, 0x83, 0x33, 0xd3}},
+        {17, {0xd5, 0x11, 0x87, 0xe6, 0x28, 0xcc, 0x40, 0x49, 0x73, 0x49, 0x3c, 0x26, 0x0f, 0x3e, 0x8b, 0x24}},
+        {32, {0x96, 0xa0, 0x05, 0xa4, 0xec, 0xb2, 0xc8, 0x7e, 0xbb, 0x44, 0x72, 0xfd, 0x86, 0xde, 0x9b, 0xb5}},
+        {64, {0xcd, 0xfe, 0x38, 0x0c, 0x6c, 0x06, 0x15, 0x52, 0xb0, 0x4a, 0x1d, 0xd1, 0xee, 0xc7, 0x0f, 0x7d}},
+        {200, {0x0d, 0x2e, 0x19, 0x18, 0xcf, 0xb6, 0x01, 0x1f, 0x85, 0xa5, 0x41, 0x76, 0xec, 0x9b, 0xca, 0xc3}},
+        {4096, {0x15, 0x07, 0x0c, 0xad, 0x98, 0xf1, 0x1c, 0xcc, 0x5b, 0x66, 0x3c, 0xf5, 0x44, 0xb7, 0xa3, 0x97}},
+    };
+    const unsigned count = sizeof known / sizeof *known;
+    for (size_t i = 0; i < sizeof fed; i++)
+        fed[i] = (uint8_t)i;
+    for (unsigned n = 0; n < count; n++) {
+        uint8_t tag[16];
+        gift_mac(fed, 16, fed, known[n].length, tag, 16);
+        if (memcmp(tag, known[n].tag, 16) != 0 && differs(MAC))
+            printf("the tag of %lu bytes is not the stored one\n", (unsigned long)known[n].length);
+    }
+    return count;
+}
+
+/* Now and then the state is the host's: any words, bytes and count, and for one call more than 16 held. */
+static void on_a_state(void)
+{
+    uint32_t right = mac.count;
+    int damaged = bad();
+    if (below(40) == 0) {
+        for (unsigned i = 0; i < 80; i++)
+            mac.words[i] = (uint32_t)next();
+        for (unsigned i = 0; i < 16; i++) {
+            mac.chain[i] = (uint8_t)next();
+            mac.held[i] = (uint8_t)next();
+        }
+        right = mac.count = below(17);
+        by_a_key = 0;
+    }
+    if (damaged)
+        mac.count = number_above(16);
+    if (below(2))
+        piece();
+    else
+        tag_of_state();
+    if (damaged)
+        mac.count = right;
+}
+
 int main(void)
 {
     if (gift_host_edition() != GIFT_HOST_EDITION) {
@@ -467,6 +633,15 @@ int main(void)
         }
     }
     every_bit();
+    for (unsigned end = calls + MAC_CALLS; calls < end;) {
+        mischief = below(8) < 5 ? 0 : below(4) ? 2 : 5;
+        switch (below(12)) {
+        case 0: start(); break;
+        case 1: case 2: whole(); break;
+        case 3: case 4: check(); break;
+        default: on_a_state(); break;
+        }
+    }
 
     printf("%-22s", "number given back:");
     for (unsigned number = 0; number <= 11; number++)
@@ -484,6 +659,7 @@ int main(void)
     printf("%u calls met an idle record with one bit set, each bit of each lane's record before each of the four calls\n", one_bits);
     printf("%u of the calls by a key were made by the plain engine, too, on the same memory\n",
            given[PLAIN_ENCRYPT][0] + given[PLAIN_ENCRYPT][1] + given[PLAIN_ENCRYPT][2] + given[PLAIN_DECRYPT][0] + given[PLAIN_DECRYPT][1] + given[PLAIN_DECRYPT][2]);
+    printf("%u checks said yes; %u tags of states were those of the whole message; %u stored tags\n", yeses, whole_tags, known_tags());
     printf("%u calls, %u differences\n", calls, differences);
     return differences > 0;
 }

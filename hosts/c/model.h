@@ -352,3 +352,78 @@ static uint32_t take_number(const gift_lane *lanes, size_t lanes_len, uint32_t l
         return number;
     return lanes[lane].phase != 2 ? 7 : out_len != 16 ? 2 : 0;
 }
+
+/* ---- CMAC of NIST SP 800-38B, fed byte by byte ---- */
+
+static void xor_block(uint8_t *to, const uint8_t *with)
+{
+    for (unsigned i = 0; i < 16; i++)
+        to[i] ^= with[i];
+}
+
+/* X << 1, with R if the first bit was 1 */
+static void model_subkey(uint8_t *x)
+{
+    bits from = bits_of_bytes(x), to;
+    to.b[0] = 0;
+    for (unsigned i = 1; i < 128; i++)
+        to.b[i] = from.b[i - 1];
+    bytes_of_bits(to, x);
+    if (from.b[127])
+        x[15] ^= 0x87;
+}
+
+static void model_start(gift_mac_state *s, const uint8_t *key)
+{
+    *s = (gift_mac_state){0};
+    if (key != NULL)
+        model_expand(key, s->words);
+}
+
+static void model_piece(gift_mac_state *s, const uint8_t *bytes, size_t len)
+{
+    for (size_t i = 0; i < len; i++) {
+        if (s->count == 16) {
+            xor_block(s->chain, s->held);
+            model_by_words(0, s->words, s->chain, s->chain);
+            s->count = 0;
+        }
+        s->held[s->count++] = bytes[i];
+    }
+    for (unsigned i = s->count; i < 16; i++)
+        s->held[i] = 0;
+}
+
+static void model_tag(const gift_mac_state *s, uint8_t *tag)
+{
+    uint8_t key[16] = {0}, block[16] = {0};
+    model_by_words(0, s->words, key, key);
+    model_subkey(key);
+    if (s->count < 16) {
+        model_subkey(key);
+        block[s->count] = 0x80;
+    }
+    for (unsigned i = 0; i < s->count; i++)
+        block[i] = s->held[i];
+    xor_block(block, key);
+    xor_block(block, s->chain);
+    model_by_words(0, s->words, block, tag);
+}
+
+static void model_mac(const uint8_t *key, const uint8_t *message, size_t len, uint8_t *tag)
+{
+    gift_mac_state s;
+    model_start(&s, key);
+    model_piece(&s, message, len);
+    model_tag(&s, tag);
+}
+
+static uint32_t state_number(const gift_mac_state *s)
+{
+    return s->count > 16 ? 10 : 0;
+}
+
+static uint32_t tag_number(const gift_mac_state *s, size_t tag_len)
+{
+    return s->count > 16 ? 10 : tag_len != 16 ? 2 : 0;
+}

@@ -34,5 +34,9 @@ BAD_DIRECTION = 9
 abbrev pub BAD_BENCH : ℕ
 BAD_BENCH = 10
 
+-- the same number, of a state that a host keeps
+abbrev pub BAD_STATE : ℕ
+BAD_STATE = 10
+
 abbrev pub NOT_THE_OWNER : ℕ
 NOT_THE_OWNER = 11

@@ -31,5 +31,8 @@ pub const BAD_DIRECTION: u32 = 9;
 // Another number of records than there are lanes, no such lane last served, or a record that is not sound.
 pub const BAD_BENCH: u32 = 10;
 
+// The same number: a state that a host keeps claims more than it can hold.
+pub const BAD_STATE: u32 = 10;
+
 // Opening with owner 0; taking from or closing a busy lane with another number than its owner's.
 pub const NOT_THE_OWNER: u32 = 11;

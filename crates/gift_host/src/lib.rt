@@ -1,12 +1,17 @@
 // What a host links, under C names: each function hands its arguments on to the proved call of the same meaning and gives back its answer.
 // The host's side of it is include/gift_host.h.
 use bench_lent::Turns;
+use cmac::Checked;
+use cmac::Fed;
+use cmac::Mac;
+use cmac::Started;
 use lane::Lane;
 ghost use mathlib.Core.Path.{_≡_};
 ghost use denote.Ref.{now};
 ghost use Rattle.published.specs.Calls.{EncryptsByKey, DecryptsByKey};
 ghost use Rattle.key_schedule.specs.Expand.{Expands};
 ghost use Rattle.gift128.specs.Calls.{EncryptsByWords, DecryptsByWords, EncryptsBlocks, DecryptsBlocks};
+ghost use Rattle.cmac.specs.Calls.{TagsWhole, Checks, Starts, Feeds, TagsState};
 ghost use Rattle.bench_lent.specs.Lent.{Opens, Serves, Takes, Closes};
 ghost use Rattle.gift_host.specs.Edition.{edition};
 
@@ -132,4 +137,44 @@ pub extern "C" fn gift_close(lanes: &mut [Lane], last: u32, lane: u32, owner: u1
     ensures { λ r. ⌜ Closes (now (lanes .entry)) last lane owner r (now (lanes .exit)) ⌝ }
 {
     bench_lent::close(lanes, last, lane, owner)
+}
+
+// CMAC. The tag of a whole message: 1, 2.
+#[no_mangle]
+pub extern "C" fn gift_mac(key: &[u8], message: &[u8], tag: &mut [u8]) -> u32
+    ensures { λ r. ⌜ TagsWhole (now (key .entry)) (now (message .entry)) (now (tag .entry)) r (now (tag .exit)) ⌝ }
+{
+    cmac::whole(key, message, tag)
+}
+
+// A tag checked: 1, 2.
+#[no_mangle]
+pub extern "C" fn gift_mac_check(key: &[u8], message: &[u8], tag: &[u8]) -> Checked
+    ensures { λ r. ⌜ Checks (now (key .entry)) (now (message .entry)) (now (tag .entry)) (r .code) (r .yes) ⌝ }
+{
+    cmac::check(key, message, tag)
+}
+
+// In pieces, over a state that goes in by value and comes back. A start: 1.
+#[no_mangle]
+pub extern "C" fn gift_mac_start(key: &[u8]) -> Started
+    ensures { λ r. ⌜ Starts (now (key .entry)) (r .code) (r .state) ⌝ }
+{
+    cmac::start(key)
+}
+
+// A piece: 10.
+#[no_mangle]
+pub extern "C" fn gift_mac_piece(state: Mac, piece: &[u8]) -> Fed
+    ensures { λ r. ⌜ Feeds state (now (piece .entry)) (r .code) (r .state) ⌝ }
+{
+    cmac::piece(state, piece)
+}
+
+// The tag of a state: 10, 2.
+#[no_mangle]
+pub extern "C" fn gift_mac_tag(state: Mac, tag: &mut [u8]) -> u32
+    ensures { λ r. ⌜ TagsState state (now (tag .entry)) r (now (tag .exit)) ⌝ }
+{
+    cmac::tag(state, tag)
 }

@@ -15,7 +15,6 @@ use crate::text::number;
 use crate::text::same_words;
 use crate::text::says_number;
 use crate::text::says_one;
-use crate::text::words;
 use bench::Answer;
 use bench::Bench;
 use bench::LANES;
@@ -45,17 +44,16 @@ fn words_of(k: Part) -> [u32; 80] {
     cipher.k
 }
 
-fn words_given(line: &[u8]) -> [u32; 80] {
-    let w = words(line);
+fn words_given(w: Part) -> [u32; 80] {
     let words = w.words;
     eighty(front_words(&words, w.m))
 }
 
-// The words of a record: those that a key is expanded to, or the words themselves.
-fn words_told(line: &[u8]) -> [u32; 80] {
-    let k = key(line);
+// Eighty words that a line tells: those that a key is expanded to, or the words themselves.
+pub(crate) fn words_told(line: &[u8], key: &[u8], words: &[u8]) -> [u32; 80] {
+    let k = field(line, key);
     if k.n == 0 {
-        return words_given(line);
+        return words_given(field(line, words));
     }
     words_of(k)
 }
@@ -67,7 +65,7 @@ fn owner(line: &[u8]) -> u16 {
 
 // The record that a line tells; a field that it does not have is zero.
 fn record(line: &[u8]) -> Lane {
-    let words = words_told(line);
+    let words = words_told(line, b"key", b"words");
     let state = four(line, b"state");
     Lane {
         phase: (number(line, b"phase") % 256) as u8,
@@ -90,7 +88,7 @@ pub(crate) fn told(b: Bench, line: &[u8]) -> Bench {
     bench
 }
 
-fn same_eighty(a: [u32; 80], b: [u32; 80]) -> bool {
+pub(crate) fn same_eighty(a: [u32; 80], b: [u32; 80]) -> bool {
     same_words(&a, &b)
 }
 

@@ -5,6 +5,7 @@
 // cases were equal and how many different. The cases that the gate replays stand in the file stdin beside src/.
 mod benches;
 mod cipher;
+mod macs;
 mod text;
 
 use bench::Bench;
@@ -75,7 +76,8 @@ fn call_of(line: &[u8]) -> u32 {
           ror=11 swapmovesingle=12 u32big=13 byte_ror_2=14 byte_ror_4=15 byte_ror_6=16 half_ror_4=17 half_ror_8=18 half_ror_12=19 \
           nibble_ror_1=1a nibble_ror_2=1b nibble_ror_3=1c round_constant=1d \
           sbox=21 inv_sbox=22 swapmove=23 packing=24 quintuple_round=25 inv_quintuple_round=26 first_round=27 \
-          open_lane=31 turn=32 close=33 take=34 fresh=35 put=41 record=42 #=51 ##=52",
+          open_lane=31 turn=32 close=33 take=34 fresh=35 put=41 record=42 #=51 ##=52 \
+          cmac=61 cmac_check=62 cmac_start=63 cmac_piece=64 cmac_tag=65",
         &line[0..e],
     )
 }
@@ -112,6 +114,7 @@ fn judged(r: Run, line: &[u8]) -> Run {
         0x42 => recorded(r, line),
         0x51 => r,
         0x52 => headed(r, line),
+        0x61..=0x65 => counted(r, macs::right(call, line), line),
         _ => counted(r, cipher::right(call, line), line),
     }
 }

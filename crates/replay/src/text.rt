@@ -168,9 +168,13 @@ pub(crate) fn says_number(line: &[u8], code: u32) -> bool {
     says_one(line, b"number", code)
 }
 
-// Whether these bytes are what was lent, afterwards.
-pub(crate) fn left(line: &[u8], got: &[u8]) -> bool {
-    let p = field(line, b"left");
+pub(crate) fn says_bytes(line: &[u8], name: &[u8], got: &[u8]) -> bool {
+    let p = field(line, name);
     let bytes = p.bytes;
     same(front(&bytes, p.n), got)
+}
+
+// Whether these bytes are what was lent, afterwards.
+pub(crate) fn left(line: &[u8], got: &[u8]) -> bool {
+    says_bytes(line, b"left", got)
 }

@@ -7,6 +7,7 @@
 use core::sync::atomic::{AtomicBool, Ordering};
 
 use crate::bench::Lane;
+use crate::mac::MacState;
 use crate::Refusal;
 
 /// What a call for turns tells.
@@ -25,7 +26,20 @@ struct Told {
     last: u32,
 }
 
+#[repr(C)]
+struct MacTold {
+    code: u32,
+    state: MacState,
+}
+
+#[repr(C)]
+struct MacChecked {
+    code: u32,
+    yes: u8,
+}
+
 const _: () = assert!(size_of::<Told>() == 12);
+const _: () = assert!(size_of::<MacTold>() == 360 && size_of::<MacChecked>() == 8);
 
 extern "C" {
     fn gift_host_edition() -> u32;
@@ -97,6 +111,25 @@ extern "C" {
         out_len: usize,
     ) -> u32;
     fn gift_close(lanes: *mut Lane, lanes_len: usize, last: u32, lane: u32, owner: u16) -> u32;
+    fn gift_mac(
+        key: *const u8,
+        key_len: usize,
+        message: *const u8,
+        message_len: usize,
+        tag: *mut u8,
+        tag_len: usize,
+    ) -> u32;
+    fn gift_mac_check(
+        key: *const u8,
+        key_len: usize,
+        message: *const u8,
+        message_len: usize,
+        tag: *const u8,
+        tag_len: usize,
+    ) -> MacChecked;
+    fn gift_mac_start(key: *const u8, key_len: usize) -> MacTold;
+    fn gift_mac_piece(state: MacState, piece: *const u8, piece_len: usize) -> MacTold;
+    fn gift_mac_tag(state: MacState, tag: *mut u8, tag_len: usize) -> u32;
 }
 
 /// The edition of the library that this crate declares, as GIFT_HOST_EDITION of include/gift_host.h.
@@ -273,4 +306,58 @@ pub fn take(
 pub fn close(lanes: &mut [Lane], last: u32, lane: u32, owner: u16) -> Result<(), Refusal> {
     linked();
     answer(unsafe { gift_close(lanes.as_mut_ptr(), lanes.len(), last, lane, owner) })
+}
+
+/// Writes the CMAC tag of a whole message. Refusals: 1, 2.
+pub fn mac(key: &[u8], message: &[u8], tag: &mut [u8]) -> Result<(), Refusal> {
+    linked();
+    answer(unsafe {
+        gift_mac(
+            key.as_ptr(),
+            key.len(),
+            message.as_ptr(),
+            message.len(),
+            tag.as_mut_ptr(),
+            tag.len(),
+        )
+    })
+}
+
+/// Whether a tag is the message's, all 16 bytes of it. Refusals: 1, 2.
+pub fn mac_check(key: &[u8], message: &[u8], tag: &[u8]) -> Result<bool, Refusal> {
+    linked();
+    let told = unsafe {
+        gift_mac_check(
+            key.as_ptr(),
+            key.len(),
+            message.as_ptr(),
+            message.len(),
+            tag.as_ptr(),
+            tag.len(),
+        )
+    };
+    answer(told.code)?;
+    Ok(told.yes == 1)
+}
+
+/// A state that nothing was fed to. Refusal: 1.
+pub fn mac_start(key: &[u8]) -> Result<MacState, Refusal> {
+    linked();
+    let told = unsafe { gift_mac_start(key.as_ptr(), key.len()) };
+    answer(told.code)?;
+    Ok(told.state)
+}
+
+/// Feeds a piece to a state. Refusal: 10, and then the state is as it was.
+pub fn mac_piece(state: &mut MacState, piece: &[u8]) -> Result<(), Refusal> {
+    linked();
+    let told = unsafe { gift_mac_piece(*state, piece.as_ptr(), piece.len()) };
+    *state = told.state;
+    answer(told.code)
+}
+
+/// Writes the tag of what was fed to a state. Refusals: 10, 2.
+pub fn mac_tag(state: &MacState, tag: &mut [u8]) -> Result<(), Refusal> {
+    linked();
+    answer(unsafe { gift_mac_tag(*state, tag.as_mut_ptr(), tag.len()) })
 }

@@ -6,11 +6,13 @@
 
 mod bench;
 pub mod calls;
+mod mac;
 mod refusal;
 
 use core::fmt;
 
 pub use bench::{Bench, Direction, Lane, Owner, State};
+pub use mac::{Mac, MacState};
 pub use refusal::Refusal;
 
 /// A cipher instance: the 80 round words of its key.

@@ -24,7 +24,7 @@ pub enum Refusal {
     TooManyTurns = 8,
     /// 9: a direction that is neither 0 nor 1.
     BadDirection = 9,
-    /// 10: not sixteen records, last served above 15, or a record that is not sound.
+    /// 10: not sixteen records, last served above 15, or a record that is not sound; or a [`crate::MacState`] that claims more than 16 held bytes.
     BadBench = 10,
     /// 11: opening with owner 0; taking from or closing a busy lane with another number than its owner's.
     NotTheOwner = 11,

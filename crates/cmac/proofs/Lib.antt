@@ -1,0 +1,10 @@
+-- Worked facts, and laws of the tag: a block written byte by byte, strings, subkeys, the chain, the last block, pieces, checking; and that no call has a second outcome.
+pub mod Facts
+pub mod Filling
+pub mod Strings
+pub mod Subkeys
+pub mod Chaining
+pub mod LastBlock
+pub mod Pieces
+pub mod Checking
+pub mod OneOutcome
