@@ -25,13 +25,16 @@ arms (inr y) f g = inr (g y)
 returns : tie.Need-returns
 returns c =
     let at = c .before .before .before .before in
-    let here = eq-eqb _ _ (c .before .if2 .taken) in
+    let a = at .before .before .args in
+    let here = eq-eqb (a .s .next) (a .lane) (c .before .if2 .taken) in
     (refl, both _ _ _ (arms (at .if1 .came) (λ w. (w .0 .taken, w .1 ∙ at .before .sound-lane .ensures)) (λ w. (w .0 .left, w .1))), rw here, rw here (c .admits .ensures))
 
 returns-2 : tie.Need-returns-2
 returns-2 c =
     let at = c .before .before .before in
-    (refl, both _ _ _ (arms (at .if1 .came) (λ w. (w .0 .taken, w .1 ∙ at .before .sound-lane .ensures)) (λ w. (w .0 .left, w .1))), rw (ne-eqb _ _ (c .if2 .left)), rw (ne-eqb _ _ (c .if2 .left)))
+    let a = at .before .before .args in
+    let elsewhere = ne-eqb (a .s .next) (a .lane) (c .if2 .left) in
+    (refl, both _ _ _ (arms (at .if1 .came) (λ w. (w .0 .taken, w .1 ∙ at .before .sound-lane .ensures)) (λ w. (w .0 .left, w .1))), rw elsewhere, rw elsewhere)
 
 pub noted-spec : {M : Type 1} → statement M
 noted-spec = tie.close (tie.spec (λ c κs. search needs) add-next (λ c κs. search needs) returns returns-2)
