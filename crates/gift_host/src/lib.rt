@@ -11,6 +11,7 @@ ghost use denote.Ref.{now};
 ghost use Rattle.published.specs.Calls.{EncryptsByKey, DecryptsByKey};
 ghost use Rattle.key_schedule.specs.Expand.{Expands};
 ghost use Rattle.gift128.specs.Calls.{EncryptsByWords, DecryptsByWords, EncryptsBlocks, DecryptsBlocks};
+ghost use Rattle.counter.specs.Calls.{Starts as StartsStream, Feeds as FeedsStream};
 ghost use Rattle.cmac.specs.Calls.{TagsWhole, Checks, Starts, Feeds, TagsState};
 ghost use Rattle.bench_lent.specs.Lent.{Opens, Serves, Takes, Closes};
 ghost use Rattle.gift_host.specs.Edition.{edition};
@@ -177,4 +178,24 @@ pub extern "C" fn gift_mac_tag(state: Mac, tag: &mut [u8]) -> u32
     ensures { λ r. ⌜ TagsState state (now (tag .entry)) r (now (tag .exit)) ⌝ }
 {
     cmac::tag(state, tag)
+}
+
+// Counter mode, over a stream that goes in by value and comes back. A start: 1, 2.
+#[no_mangle]
+pub extern "C" fn gift_stream_start(key: &[u8], nonce: &[u8], counter: u32) -> counter::Started
+    ensures { λ r. ⌜ StartsStream (now (key .entry)) (now (nonce .entry)) counter (r .code) (r .stream) ⌝ }
+{
+    counter::start(key, nonce, counter)
+}
+
+// A piece: 10, 3, 12.
+#[no_mangle]
+pub extern "C" fn gift_stream_piece(
+    stream: counter::Stream,
+    input: &[u8],
+    output: &mut [u8],
+) -> counter::Fed
+    ensures { λ r. ⌜ FeedsStream stream (now (input .entry)) (now (output .entry)) (r .code) (r .stream) (now (output .exit)) ⌝ }
+{
+    counter::piece(stream, input, output)
 }

@@ -24,10 +24,12 @@ pub enum Refusal {
     TooManyTurns = 8,
     /// 9: a direction that is neither 0 nor 1.
     BadDirection = 9,
-    /// 10: not sixteen records, last served above 15, or a record that is not sound; or a [`crate::MacState`] that claims more than 16 held bytes.
+    /// 10: not sixteen records, last served above 15, or a record that is not sound; or a [`crate::MacState`] that claims more than 16 held bytes, or a [`crate::Stream`] more than 15 unused ones.
     BadBench = 10,
     /// 11: opening with owner 0; taking from or closing a busy lane with another number than its owner's.
     NotTheOwner = 11,
+    /// 12: a piece needs more counters than the stream has left.
+    TooFewCounters = 12,
 }
 
 impl Refusal {
@@ -44,9 +46,10 @@ impl Refusal {
         Refusal::BadDirection,
         Refusal::BadBench,
         Refusal::NotTheOwner,
+        Refusal::TooFewCounters,
     ];
 
-    /// Its number, 1 to 11.
+    /// Its number, 1 to 12.
     pub const fn number(self) -> u32 {
         self as u32
     }
@@ -84,6 +87,7 @@ impl fmt::Display for Refusal {
             Refusal::BadDirection => "the direction is neither 0 nor 1",
             Refusal::BadBench => "the bench is not sound",
             Refusal::NotTheOwner => "the lane is another's",
+            Refusal::TooFewCounters => "the stream has too few counters left",
         })
     }
 }

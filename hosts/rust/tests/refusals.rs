@@ -8,18 +8,18 @@ const WORD_COUNTS: [usize; 7] = [0, 1, 16, 79, 80, 81, 160];
 
 #[test]
 fn numbers_and_names() {
-    for (n, refusal) in (1..).zip(Refusal::ALL) {
+    for (n, refusal) in (1..=10).chain([12]).zip(Refusal::ALL) {
         assert_eq!(
             (refusal.number(), u32::from(refusal), Refusal::try_from(n)),
             (n, n, Ok(refusal))
         );
     }
-    for n in [0, 12, 255, 256, 257, u32::MAX] {
+    for n in [0, 13, 255, 256, 257, u32::MAX] {
         assert_eq!(Refusal::try_from(n), Err(n));
     }
     let told: std::collections::HashSet<String> =
         Refusal::ALL.iter().map(|r| r.to_string()).collect();
-    assert_eq!(told.len(), 11);
+    assert_eq!(told.len(), Refusal::ALL.len());
 }
 
 #[test]
