@@ -44,7 +44,7 @@ uint32_t gift_host_edition(void);
 /* The numbers given back. */
 #define GIFT_DONE 0
 #define GIFT_BAD_KEY_LENGTH 1    /* the key is not of 16 bytes */
-#define GIFT_BAD_BLOCK_LENGTH 2  /* a block, take buffer or tag is not of 16 bytes; many blocks: input not a multiple of 16 */
+#define GIFT_BAD_BLOCK_LENGTH 2  /* a block, take buffer or tag is not of 16 bytes, or a nonce not of 12; many blocks: input not a multiple of 16 */
 #define GIFT_BAD_OUTPUT_LENGTH 3 /* the output is not as long as the input */
 #define GIFT_BAD_WORD_COUNT 4    /* the round words are not 80 */
 #define GIFT_BAD_LANE 5          /* a lane number above 15 */
@@ -210,11 +210,12 @@ uint32_t gift_mac_tag(gift_mac_state state, uint8_t *tag, size_t tag_len);
 /* ---- counter mode of NIST SP 800-38A, fed in pieces ----
  *
  * A counter block is 12 bytes of the host's, which stay, and a counter of 32 bits, the most significant byte first, which rises by 1 and never
- * carries into them. A stream is kept by the host. It goes in by value, and what comes back takes its place; gift_stream_apply does that over a
- * pointer. There is one state for each position of a stream, so that two may be compared byte for byte: where no byte is unused the block is zero,
- * and where the last counter is used the counter is 0 and spent is 1. Encrypting and decrypting are the same.
+ * carries into them. The host keeps the stream and lends it for each piece. There is one state for each position of a stream, so that two may be
+ * compared byte for byte: where no byte is unused the block is zero, and where the last counter is used the counter is 0 and spent is 1.
+ * Encrypting and decrypting are the same.
  *
- * The same key and the same 12 bytes must not meet the same counter twice, in two streams: the library cannot see that.
+ * The same key and the same 12 bytes must not meet the same counter twice, in two streams or in one that was kept and used again: the library
+ * cannot see that.
  */
 
 #define GIFT_NONCE_SIZE 12 /* bytes of the host's in a counter block */
@@ -229,27 +230,19 @@ typedef struct gift_stream {
     uint32_t spent;                 /* at 356: 0 while there is a counter left */
 } gift_stream;
 
-/* What a start and a piece tell. */
-typedef struct gift_stream_told {
+/* What a start tells. */
+typedef struct gift_stream_started {
     uint32_t code; /* 0, or the refusal */
     gift_stream stream;
-} gift_stream_told;
+} gift_stream_started;
 
 /* A stream at its first counter. Refused, it gives one that is all zero and spent. Refusals: 1, 2 (not 12 bytes). */
-gift_stream_told gift_stream_start(const uint8_t *key, size_t key_len, const uint8_t *nonce, size_t nonce_len, uint32_t counter);
+gift_stream_started gift_stream_start(const uint8_t *key, size_t key_len, const uint8_t *nonce, size_t nonce_len, uint32_t counter);
 
-/* A piece of any length, 0 too, from one buffer to another of the same length. However a message is cut, the same bytes are written, and the stream
- * is the same in the end. 12 exactly if the piece needs more new blocks than counters are left; the bytes unused are served even if none is, and
- * an empty piece is never refused with 12. A refused piece gives the stream back as it was. Refusals: 10, 3, 12. */
-gift_stream_told gift_stream_piece(gift_stream stream, const uint8_t *input, size_t input_len, uint8_t *output, size_t output_len);
-
-/* The same over a stream that is lent by pointer; 0 or the refusal. (These three lines are C, not proved.) */
-static inline uint32_t gift_stream_apply(gift_stream *stream, const uint8_t *input, size_t input_len, uint8_t *output, size_t output_len)
-{
-    gift_stream_told told = gift_stream_piece(*stream, input, input_len, output, output_len);
-    *stream = told.stream;
-    return told.code;
-}
+/* A piece of any length, 0 too, from one buffer to another of the same length, and the stream moves on. However a message is cut, the same bytes are
+ * written, and the stream is the same in the end. 12 exactly if the piece needs more new blocks than counters are left: the bytes unused are served
+ * even if none is, and an empty piece is never refused with 12. Refusals: 10, 3, 12. */
+uint32_t gift_stream_piece(gift_stream *stream, const uint8_t *input, size_t input_len, uint8_t *output, size_t output_len);
 
 /* The layout above, held to the compiler's where it can say so. */
 #if defined(__cplusplus) && __cplusplus >= 201103L
@@ -265,7 +258,7 @@ GIFT_HOST_HOLDS(sizeof(gift_mac_state) == 356);
 GIFT_HOST_HOLDS(sizeof(gift_mac_told) == 360);
 GIFT_HOST_HOLDS(sizeof(gift_mac_checked) == 8);
 GIFT_HOST_HOLDS(sizeof(gift_stream) == 360);
-GIFT_HOST_HOLDS(sizeof(gift_stream_told) == 364);
+GIFT_HOST_HOLDS(sizeof(gift_stream_started) == 364);
 #ifdef offsetof
 GIFT_HOST_HOLDS(offsetof(gift_lane, direction) == 1);
 GIFT_HOST_HOLDS(offsetof(gift_lane, owner) == 2);
@@ -276,6 +269,7 @@ GIFT_HOST_HOLDS(offsetof(gift_mac_state, chain) == 320);
 GIFT_HOST_HOLDS(offsetof(gift_mac_state, held) == 336);
 GIFT_HOST_HOLDS(offsetof(gift_mac_state, count) == 352);
 GIFT_HOST_HOLDS(offsetof(gift_mac_checked, yes) == 4);
+GIFT_HOST_HOLDS(offsetof(gift_stream_started, stream) == 4);
 GIFT_HOST_HOLDS(offsetof(gift_stream, nonce) == 320);
 GIFT_HOST_HOLDS(offsetof(gift_stream, counter) == 332);
 GIFT_HOST_HOLDS(offsetof(gift_stream, block) == 336);

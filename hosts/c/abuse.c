@@ -8,6 +8,7 @@
 
 #define CALLS 100000
 #define MAC_CALLS 20000 /* of CMAC, after those */
+#define STREAM_CALLS 20000 /* of streams, after those */
 #define RECORDS (LANES + 2) /* of which the first are a bench */
 
 /* The header's names are document 01's numbers. */
@@ -613,53 +614,43 @@ static void on_a_state(void)
         tag_of_state();
     if (damaged)
         mac.count = right;
+}
+
 /* ---- streams ---- */
 
-#define STREAM_CALLS 20000 /* after all others */
-
+static room streams;
 static gift_stream stream; /* as the model has it */
 static unsigned forged, spent_served;
 
-static void hold_stream(unsigned kind, gift_stream told)
-{
-    if (memcmp(&told, &stream, sizeof stream) != 0 && differs(kind))
-        printf("the stream given back is not what it must be\n");
-}
-
 static void start_stream(void)
 {
-    gift_stream_told told;
+    gift_stream_started told;
     uint32_t must, first = below(2) ? (uint32_t)next() : (uint32_t)-1 - below(6);
     lend(&keys, "key", length(16), 1);
     lend(&blocks, "nonce", length(12), 1);
-    must = start_number(keys.length, blocks.length);
+    must = stream_start_number(keys.length, blocks.length);
     model_stream_start(&stream, must == 0 ? expected(&keys) : NULL, expected(&blocks), first);
     told = gift_stream_start(part(&keys), keys.length, part(&blocks), blocks.length, first);
     hold(STREAM_START, told.code, must);
-    hold_stream(STREAM_START, told.stream);
+    if (memcmp(&told.stream, &stream, sizeof stream) != 0 && differs(STREAM_START))
+        printf("the stream given back is not what it must be\n");
 }
 
-/* By value, and by the header's function over a pointer. */
 static void stream_piece(void)
 {
-    gift_stream given_stream = stream;
-    uint32_t must, number;
+    uint32_t number, must;
+    lend(&streams, "stream", 1, sizeof stream);
     lend(&blocks, "input", below(4) ? below(40) : 16 * below(5), 1);
     lend(&outputs, "output", length(blocks.length), 1);
-    must = piece_number(&stream, blocks.length, outputs.length);
+    memcpy(part(&streams), &stream, sizeof stream);
+    must = stream_piece_number(&stream, blocks.length, outputs.length);
     if (must == 0) {
         spent_served += stream.spent && blocks.length > 0;
         model_stream_piece(&stream, expected(&blocks), blocks.length, expected(&outputs));
     }
-    if (below(2)) {
-        gift_stream_told told = gift_stream_piece(given_stream, part(&blocks), blocks.length, part(&outputs), outputs.length);
-        number = told.code;
-        given_stream = told.stream;
-    } else {
-        number = gift_stream_apply(&given_stream, part(&blocks), blocks.length, part(&outputs), outputs.length);
-    }
+    memcpy(expected(&streams), &stream, sizeof stream);
+    number = gift_stream_piece(part(&streams), part(&blocks), blocks.length, part(&outputs), outputs.length);
     hold(STREAM_PIECE, number, must);
-    hold_stream(STREAM_PIECE, given_stream);
 }
 
 /* Now and then the stream is the host's: any words, bytes and numbers, and for one call more than 15 unused. */

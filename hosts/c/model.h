@@ -426,6 +426,8 @@ static uint32_t state_number(const gift_mac_state *s)
 static uint32_t tag_number(const gift_mac_state *s, size_t tag_len)
 {
     return s->count > 16 ? 10 : tag_len != 16 ? 2 : 0;
+}
+
 /* ---- counter mode of NIST SP 800-38A, byte by byte ---- */
 
 static void model_stream_start(gift_stream *s, const uint8_t *key, const uint8_t *nonce, uint32_t counter)
@@ -458,12 +460,12 @@ static void model_stream_piece(gift_stream *s, const uint8_t *input, size_t len,
     }
 }
 
-static uint32_t start_number(size_t key_len, size_t nonce_len)
+static uint32_t stream_start_number(size_t key_len, size_t nonce_len)
 {
     return key_len != 16 ? 1 : nonce_len != 12 ? 2 : 0;
 }
 
-static uint32_t piece_number(const gift_stream *s, size_t input_len, size_t output_len)
+static uint32_t stream_piece_number(const gift_stream *s, size_t input_len, size_t output_len)
 {
     uint64_t left = s->spent ? 0 : ((uint64_t)1 << 32) - s->counter;
     return s->unused > 15 ? 10 : output_len != input_len ? 3 : input_len > s->unused + 16 * left ? 12 : 0;

@@ -180,7 +180,7 @@ pub extern "C" fn gift_mac_tag(state: Mac, tag: &mut [u8]) -> u32
     cmac::tag(state, tag)
 }
 
-// Counter mode, over a stream that goes in by value and comes back. A start: 1, 2.
+// Counter mode. A start gives a stream, which the host keeps: 1, 2.
 #[no_mangle]
 pub extern "C" fn gift_stream_start(key: &[u8], nonce: &[u8], counter: u32) -> counter::Started
     ensures { λ r. ⌜ StartsStream (now (key .entry)) (now (nonce .entry)) counter (r .code) (r .stream) ⌝ }
@@ -188,14 +188,16 @@ pub extern "C" fn gift_stream_start(key: &[u8], nonce: &[u8], counter: u32) -> c
     counter::start(key, nonce, counter)
 }
 
-// A piece: 10, 3, 12.
+// A piece, over the host's own stream: 10, 3, 12. What comes back takes its place.
 #[no_mangle]
 pub extern "C" fn gift_stream_piece(
-    stream: counter::Stream,
+    stream: &mut counter::Stream,
     input: &[u8],
     output: &mut [u8],
-) -> counter::Fed
-    ensures { λ r. ⌜ FeedsStream stream (now (input .entry)) (now (output .entry)) (r .code) (r .stream) (now (output .exit)) ⌝ }
+) -> u32
+    ensures { λ r. ⌜ FeedsStream (now (stream .entry)) (now (input .entry)) (now (output .entry)) r (now (stream .exit)) (now (output .exit)) ⌝ }
 {
-    counter::piece(stream, input, output)
+    let fed = counter::piece(*stream, input, output);
+    *stream = fed.stream;
+    fed.code
 }

@@ -39,16 +39,15 @@ struct MacChecked {
     yes: u8,
 }
 
-
 #[repr(C)]
-struct StreamTold {
+struct StreamStarted {
     code: u32,
     stream: Stream,
 }
 
 const _: () = assert!(size_of::<Told>() == 12);
 const _: () = assert!(size_of::<MacTold>() == 360 && size_of::<MacChecked>() == 8);
-const _: () = assert!(size_of::<StreamTold>() == 364);
+const _: () = assert!(size_of::<StreamStarted>() == 364);
 
 extern "C" {
     fn gift_host_edition() -> u32;
@@ -145,14 +144,14 @@ extern "C" {
         nonce: *const u8,
         nonce_len: usize,
         counter: u32,
-    ) -> StreamTold;
+    ) -> StreamStarted;
     fn gift_stream_piece(
-        stream: Stream,
+        stream: *mut Stream,
         input: *const u8,
         input_len: usize,
         output: *mut u8,
         output_len: usize,
-    ) -> StreamTold;
+    ) -> u32;
 }
 
 /// The edition of the library that this crate declares, as GIFT_HOST_EDITION of include/gift_host.h.
@@ -404,15 +403,13 @@ pub fn stream_start(key: &[u8], nonce: &[u8], counter: u32) -> Result<Stream, Re
 /// A piece, from one buffer to another of the same length. Refusals: 10, 3, 12, and then stream and output are as they were.
 pub fn stream_piece(stream: &mut Stream, input: &[u8], output: &mut [u8]) -> Result<(), Refusal> {
     linked();
-    let told = unsafe {
+    answer(unsafe {
         gift_stream_piece(
-            *stream,
+            stream,
             input.as_ptr(),
             input.len(),
             output.as_mut_ptr(),
             output.len(),
         )
-    };
-    *stream = told.stream;
-    answer(told.code)
+    })
 }

@@ -1,4 +1,4 @@
-//! The eleven refusals, by name and by number.
+//! The twelve refusals, by name and by number.
 
 use core::fmt;
 
@@ -8,7 +8,7 @@ use core::fmt;
 pub enum Refusal {
     /// 1: the key is not of 16 bytes.
     BadKeyLength = 1,
-    /// 2: a block or take buffer is not of 16 bytes; many blocks: the input's length is not a multiple of 16.
+    /// 2: a block, take buffer or tag is not of 16 bytes, or a nonce not of 12; many blocks: the input's length is not a multiple of 16.
     BadBlockLength = 2,
     /// 3: the output is not as long as the input.
     BadOutputLength = 3,
@@ -33,8 +33,8 @@ pub enum Refusal {
 }
 
 impl Refusal {
-    /// All eleven, in the order of their numbers.
-    pub const ALL: [Refusal; 11] = [
+    /// All twelve, in the order of their numbers.
+    pub const ALL: [Refusal; 12] = [
         Refusal::BadKeyLength,
         Refusal::BadBlockLength,
         Refusal::BadOutputLength,
