@@ -1,11 +1,13 @@
--- What is claimed of counter mode: it is the standard's, decrypting is encrypting again, skipping whole blocks is starting later, no counter block is used twice, and no call has a second outcome.
+-- What is claimed of counter mode: it is the standard's, when 12 is given, decrypting is encrypting again, skipping whole blocks is starting later, no counter block is used twice, and no call has a second outcome.
 use mathlib.Core.Path.{_≡_, refl, sym, ap, ap₂, fun-ext, _∙_}
 use mathlib.Core.Bool.{false}
-use mathlib.Core.List.{List}
+use mathlib.Core.List.{List, []}
 use Prim.Native.Nat.{ℕ, zero, suc, _+_, _-_, _*_, _/_, _%_, _≤_, _<_}
 use native.Mathlib.Omega.{arith}
 use lib.ListN.{length, drop, getD}
 use lib.Seq.{drop-at}
+use borrow.Author.Tests.{eq-eqb, le-leb, lt-leb}
+use Rattle.answers.specs.Numbers.{TOO_FEW_COUNTERS}
 use Rattle.answers.specs.Outcome.{OneOutcome}
 use Rattle.answers.proofs.Outcome.{one-outcome}
 use Rattle.published.specs.Bytes.{fromBytes, toBytes}
@@ -17,11 +19,11 @@ use Rattle.gift128.proofs.Blocks.{crossed-key}
 use Rattle.counter.specs.declared.Stream.{Stream}
 use Rattle.counter.specs.Standard.{_⊕_, counterBlock, keyBlocks, counterMode}
 use Rattle.counter.specs.Steps.{counters, zeroBlock, keyByte, keyBytes, after}
-use Rattle.counter.specs.Calls.{needed, startedBy, Left, fed, Starts, Feeds}
+use Rattle.counter.specs.Calls.{needed, left, enough, pieceCode, codeOf, startedBy, Left, fed, Starts, Feeds}
 use Rattle.counter.specs.Pieces.{Accepted}
 use Rattle.counter.proofs.Strings.{length-⊕, ⊕-longer, ⊕-again}
 use Rattle.counter.proofs.Jumping.{mk, length-bytes, skip-bytes, skip-unspent, new-bytes, byte-at}
-use Rattle.counter.proofs.Passing.{piece-passed}
+use Rattle.counter.proofs.Passing.{piece-passed, piece-short}
 use Rattle.counter.proofs.Leaving.{room}
 
 -- ---- the standard's counter mode
@@ -46,6 +48,27 @@ whole-message key nonce c m lt e =
   where
     same : needed 0 (length m) ≡ (length m + 15) / 16
     same = omega arith
+
+-- ---- exactly when 12
+
+-- it is given to a piece that has neither of the other refusals and needs more new blocks than counters are left, and to no other
+pub too-few : (s : Stream) (input output : ℕ) → codeOf s input output ≡ TOO_FEW_COUNTERS → (s .unused ≤ 15) × (output ≡ input) × (left (s .counter) (s .spent) < needed (s .unused) input)
+too-few s input output = piece-short (s .counter) (s .unused) (s .spent) input output
+
+pub if-too-few : (s : Stream) (n : ℕ) → s .unused ≤ 15 → left (s .counter) (s .spent) < needed (s .unused) n → codeOf s n n ≡ TOO_FEW_COUNTERS
+unfolding pieceCode enough
+if-too-few s n u h = rw (le-leb (s .unused) 15 u, eq-eqb n n refl, lt-leb (needed (s .unused) n) (left (s .counter) (s .spent)) h)
+
+-- an empty piece is not, and it leaves the stream as it is
+pub never-for-nothing : (s : Stream) (output : ℕ) → codeOf s 0 output ≡ TOO_FEW_COUNTERS → ⊥
+never-for-nothing s output e = none (left (s .counter) (s .spent)) (too-few s 0 output e .2)
+  where
+    none : (l : ℕ) → l < needed (s .unused) 0 → ⊥
+    none l h = omega arith
+
+pub nothing-fed : (s : Stream) → fed s [] ≡ record { stream = s; bytes = [] }
+unfolding fed after _⊕_
+nothing-fed s = refl
 
 -- ---- decrypting is encrypting again
 

@@ -292,6 +292,7 @@ pub fn piece(stream: Stream, input: &[u8], output: &mut [u8]) -> Fed
         output.len(),
     );
     if code != DONE {
+        // neither the stream nor the output has changed
         return Fed { code, stream };
     }
     if input.len() == 0 {
