@@ -13,6 +13,9 @@ use Rattle.counter.proofs.Leaving.{room, fed-none, fed-is}
 use Rattle.counter.proofs.piece.Statement.{statement}
 use Rattle.counter.proofs.piece.Tie as tie
 
+piece-code-requires : tie.Need-piece-code-requires
+piece-code-requires c κs = search needs
+
 returns : tie.Need-returns
 returns c = refuses (c .before .piece-code .ensures) (c .if1 .taken)
 
@@ -63,7 +66,7 @@ pub piece-spec : {M : Type 1} → statement M
 piece-spec =
     tie.close
     (tie.spec
-    (λ c κs. search needs)
+    piece-code-requires
     returns
     returns-2
     (λ c. search needs)
