@@ -116,10 +116,11 @@ def line(call, fields):
     return " ".join([call] + ["%s=%s" % (name, value or "-") for name, value in fields.items()])
 
 
-def state(s, to=""):
-    """The fields of a stream: before a call, or, under other names, after it."""
-    words = {to + "words": 80 * "00000000"} if s.key is None else {to + "key": s.key.hex()}
-    return {**words, to + "nonce": s.nonce.hex(), to + "counter": "%x" % s.counter, to + "block": s.block.hex(), to + "unused": "%x" % s.unused, to + "spent": "%x" % s.spent}
+def state(s, after=""):
+    """The fields of a stream: before a call, or, with `_after` behind their names, after it."""
+    words = {"words": 80 * "00000000"} if s.key is None else {"key": s.key.hex()}
+    fields = {**words, "nonce": s.nonce.hex(), "counter": "%x" % s.counter, "block": s.block.hex(), "unused": "%x" % s.unused, "spent": "%x" % s.spent}
+    return {name + after: value for name, value in fields.items()}
 
 
 class Script:
@@ -140,13 +141,13 @@ class Script:
 
     def start(self, key, nonce, first):
         code, s = started(key, nonce, first)
-        self.write("start_stream", {"key": key.hex(), "nonce": nonce.hex(), "counter": "%x" % first}, {"number": "%x" % code, **state(s, "to_")})
+        self.write("start_stream", {"key": key.hex(), "nonce": nonce.hex(), "counter": "%x" % first}, {"number": "%x" % code, **state(s, "_after")})
         return s
 
     def piece(self, s, data, out=None):
         out = self.some(len(data)) if out is None else out
         code, left, t = s.piece(of(s), data, out)
-        self.write("stream_piece", {**state(s), "input": data.hex(), "lent": out.hex()}, {"number": "%x" % code, "left": left.hex(), **state(t, "to_")})
+        self.write("stream_piece", {**state(s), "input": data.hex(), "lent": out.hex()}, {"number": "%x" % code, "left": left.hex(), **state(t, "_after")})
         return code, left, t
 
     def starts(self):

@@ -25,7 +25,7 @@ use primitives::State;
 // ---- records
 
 // The first eighty words, with zeros where there are fewer.
-pub(crate) fn eighty(from: &[u32]) -> [u32; 80] {
+fn eighty(from: &[u32]) -> [u32; 80] {
     let mut to = [0u32; 80];
     let mut i: usize = 0;
     while i < 80 {
@@ -37,7 +37,7 @@ pub(crate) fn eighty(from: &[u32]) -> [u32; 80] {
     to
 }
 
-pub(crate) fn words_of(k: Part) -> [u32; 80] {
+fn words_of(k: Part) -> [u32; 80] {
     let key = k.bytes;
     let made = Gift128::new(front(&key, k.n));
     let cipher = made.cipher;

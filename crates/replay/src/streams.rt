@@ -1,111 +1,47 @@
 // The calls of streams, by their numbers in main.rt: the fields of each are in oracle/README.md.
 //
-// A line tells the stream before the call and, under names that begin with `to_`, the one after it, whole.
-use crate::benches::eighty;
-use crate::benches::words_of;
+// A stream is told by its fields, and so is the stream that a call gives, with `_after` behind the names.
+use crate::benches::same_eighty;
+use crate::benches::words_told;
 use crate::text::BYTES;
-use crate::text::Part;
 use crate::text::field;
+use crate::text::four;
 use crate::text::front;
-use crate::text::front_words;
 use crate::text::key;
 use crate::text::left;
 use crate::text::lent;
 use crate::text::number;
-use crate::text::same_words;
+use crate::text::says_bytes;
 use crate::text::says_number;
-use check::same;
+use crate::text::says_one;
+use crate::text::sixteen;
+use crate::text::twelve;
 use counter::Stream;
 
-// A field of the stream before the call, or of the one after it.
-fn part(line: &[u8], to: bool, before: &[u8], after: &[u8]) -> Part {
-    if to {
-        return field(line, after);
-    }
-    field(line, before)
-}
-
-fn word(line: &[u8], to: bool, before: &[u8], after: &[u8]) -> u32 {
-    if to {
-        return number(line, after);
-    }
-    number(line, before)
-}
-
-fn words_given(w: Part) -> [u32; 80] {
-    let words = w.words;
-    eighty(front_words(&words, w.m))
-}
-
-fn words_told(line: &[u8], to: bool) -> [u32; 80] {
-    let k = part(line, to, b"key", b"to_key");
-    if k.n == 0 {
-        return words_given(part(line, to, b"words", b"to_words"));
-    }
-    words_of(k)
-}
-
-// The first bytes, with zeros where there are fewer.
-fn twelve(from: &[u8]) -> [u8; 12] {
-    let mut to = [0u8; 12];
-    let mut i: usize = 0;
-    while i < 12 {
-        if i < from.len() {
-            to[i] = from[i];
-        }
-        i += 1;
-    }
-    to
-}
-
-fn sixteen(from: &[u8]) -> [u8; 16] {
-    let mut to = [0u8; 16];
-    let mut i: usize = 0;
-    while i < 16 {
-        if i < from.len() {
-            to[i] = from[i];
-        }
-        i += 1;
-    }
-    to
-}
-
-fn nonce_told(p: Part) -> [u8; 12] {
-    let bytes = p.bytes;
-    twelve(front(&bytes, p.n))
-}
-
-fn block_told(p: Part) -> [u8; 16] {
-    let bytes = p.bytes;
-    sixteen(front(&bytes, p.n))
-}
-
-fn told(line: &[u8], to: bool) -> Stream {
-    let words = words_told(line, to);
-    let nonce = nonce_told(part(line, to, b"nonce", b"to_nonce"));
-    let block = block_told(part(line, to, b"block", b"to_block"));
+fn stream(line: &[u8]) -> Stream {
+    let words = words_told(line, b"key", b"words");
+    let nonce = twelve(four(line, b"nonce"));
+    let block = sixteen(four(line, b"block"));
     Stream {
         words,
         nonce,
-        counter: word(line, to, b"counter", b"to_counter"),
+        counter: number(line, b"counter"),
         block,
-        unused: word(line, to, b"unused", b"to_unused"),
-        spent: word(line, to, b"spent", b"to_spent"),
+        unused: number(line, b"unused"),
+        spent: number(line, b"spent"),
     }
 }
 
-fn same_bytes(a: Stream, b: Stream) -> bool {
-    let v = a.words;
-    let w = b.words;
-    let m = a.nonce;
-    let n = b.nonce;
-    let x = a.block;
-    let y = b.block;
-    same_words(&v, &w) & same(&m, &n) & same(&x, &y)
-}
-
-fn same_stream(a: Stream, b: Stream) -> bool {
-    same_bytes(a, b) & (a.counter == b.counter) & (a.unused == b.unused) & (a.spent == b.spent)
+fn says_stream(line: &[u8], s: Stream) -> bool {
+    let own = s.words;
+    let nonce = s.nonce;
+    let block = s.block;
+    let words = words_told(line, b"key_after", b"words_after");
+    let bytes = says_bytes(line, b"nonce_after", &nonce) & says_bytes(line, b"block_after", &block);
+    let numbers = says_one(line, b"counter_after", s.counter)
+        & says_one(line, b"unused_after", s.unused)
+        & says_one(line, b"spent_after", s.spent);
+    bytes & numbers & same_eighty(own, words)
 }
 
 fn started(line: &[u8]) -> bool {
@@ -118,7 +54,7 @@ fn started(line: &[u8]) -> bool {
         front(&nonce, o.n),
         number(line, b"counter"),
     );
-    says_number(line, s.code) & same_stream(s.stream, told(line, true))
+    says_number(line, s.code) & says_stream(line, s.stream)
 }
 
 fn fed(line: &[u8]) -> bool {
@@ -127,13 +63,10 @@ fn fed(line: &[u8]) -> bool {
     let n = io::count((z.n % BYTES) as isize, &buffer);
     let i = field(line, b"input");
     let input = i.bytes;
-    let f = counter::piece(told(line, false), front(&input, i.n), &mut buffer[..n]);
-    left(line, front(&buffer, n))
-        & says_number(line, f.code)
-        & same_stream(f.stream, told(line, true))
+    let f = counter::piece(stream(line), front(&input, i.n), &mut buffer[..n]);
+    left(line, front(&buffer, n)) & says_number(line, f.code) & says_stream(line, f.stream)
 }
 
-// Whether the call gives what the line says, and leaves the bytes and the stream that it tells.
 pub(crate) fn right(call: u32, line: &[u8]) -> bool {
     if call == 0x71 {
         return started(line);
