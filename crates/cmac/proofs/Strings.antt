@@ -15,7 +15,7 @@ use Rattle.bits.proofs.Truth.{both, together}
 use Rattle.cmac.specs.Standard.{_⊕_}
 use Rattle.cmac.specs.Calls.{kept, same}
 use Rattle.cmac.specs.Inner.{difference}
-use Rattle.cmac.proofs.Filling.{written}
+use Rattle.gift128.proofs.Filling.{written}
 
 -- ---- xored
 

@@ -24,7 +24,7 @@ use Rattle.counter.specs.Pieces.{Accepted}
 use Rattle.counter.proofs.Strings.{length-⊕, ⊕-longer, ⊕-again}
 use Rattle.counter.proofs.Jumping.{mk, length-bytes, skip-bytes, skip-unspent, new-bytes, byte-at}
 use Rattle.counter.proofs.Passing.{piece-passed, piece-short}
-use Rattle.counter.proofs.Leaving.{room}
+use Rattle.counter.proofs.Leaving.{fits-left}
 
 -- ---- the standard's counter mode
 
@@ -42,7 +42,7 @@ pub whole-message : (key nonce : List ℕ) (c : ℕ) (m : List ℕ) → c < coun
 unfolding startedBy fed counterMode
 whole-message key nonce c m lt e =
     let p = piece-passed c 0 0 (length m) (length m) e in
-    ap (λ (k : List ℕ). m ⊕ k) (new-bytes (expanded key) nonce (length m) c zeroBlock 0 (room c 0 (needed 0 (length m)) lt (p .2)))
+    ap (λ (k : List ℕ). m ⊕ k) (new-bytes (expanded key) nonce (length m) c zeroBlock 0 (fits-left c 0 (needed 0 (length m)) lt (p .2)))
     ∙ ⊕-longer m (keyBlocks (encryptedBy (expanded key)) nonce c (needed 0 (length m)))
     ∙ ap₂ (λ (f : List ℕ → List ℕ) (q : ℕ). m ⊕ keyBlocks f nonce c q) (by-key key) same
   where

@@ -13,15 +13,12 @@ use Rattle.counter.specs.declared.Stream.{Stream}
 use Rattle.counter.specs.Standard.{_⊕_}
 use Rattle.counter.specs.Steps.{counters, refilled, ready, used, next, keyBytes, after}
 use Rattle.counter.specs.Calls.{needed, left, enough, pieceCode, Left, fed}
-use Rattle.counter.specs.Pieces.{Accepted, whole, AllAccepted, fedAll}
+use Rattle.counter.specs.Pieces.{Accepted, room, whole, AllAccepted, fedAll}
 use Rattle.counter.proofs.Strings.{split-⊕}
 use Rattle.counter.proofs.Jumping.{after-add, bytes-add, length-bytes}
 use Rattle.counter.proofs.Passing.{piece-passed}
 
 -- ---- how many bytes a stream can still give
-
-abbrev pub room : Stream → ℕ
-room s = s .unused + 16 * left (s .counter) (s .spent)
 
 -- a piece is accepted exactly if it is not longer
 pub accepted-room : (s : Stream) (n : ℕ) → Accepted s n → (s .unused ≤ 15) × (n ≤ room s)

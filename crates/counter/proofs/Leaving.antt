@@ -142,8 +142,8 @@ module _ (w o : List ℕ) (c : ℕ) (block : List ℕ) where
 -- ---- a piece
 
 -- the counters left are those up to the last
-pub room : (c p q : ℕ) → c < counters → q ≤ left c p → c + q ≤ counters
-room c p q h l = go (eqb p 0) l
+pub fits-left : (c p q : ℕ) → c < counters → q ≤ left c p → c + q ≤ counters
+fits-left c p q h l = go (eqb p 0) l
   where
     go : (t : Bool) → q ≤ cond t (counters - c) 0 → c + q ≤ counters
     go true g = omega arith
@@ -167,7 +167,7 @@ fed-is s input b key bytes to last pos h len lt l n same filled mixed moves keep
     made = subst (λ (m : ℕ). KeyBytes (s .words) (s .nonce) (s .counter) (s .unused) (s .block) m b key) same filled
 
     fits : s .counter + needed (s .unused) (length input) ≤ counters
-    fits = room (s .counter) (s .spent) (needed (s .unused) (length input)) lt l
+    fits = fits-left (s .counter) (s .spent) (needed (s .unused) (length input)) lt l
 
     state : record { words = s .words; nonce = s .nonce; counter = to .counter; block = last; unused = to .unused; spent = to .spent } ≡ after (length input) s
     state =

@@ -1,6 +1,5 @@
--- Laws of counter mode. `Cutting` and `Claims` are what is claimed; the others lead there: a buffer written byte by byte, strings, the key stream's
--- blocks, many bytes at once, what a call has passed, and what each function leaves.
-pub mod Filling
+-- Laws of counter mode. `Cutting` and `Claims` are what is claimed; the others lead there: strings, the key stream's blocks,
+-- many bytes at once, what a call has passed, and what each function leaves.
 pub mod Strings
 pub mod Blocks
 pub mod Jumping

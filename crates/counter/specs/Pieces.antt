@@ -1,14 +1,18 @@
--- A message in pieces, a first and those after it, fed one after the other; and the message that they are.
+-- Which pieces a stream accepts; a message in pieces, a first and those after it, fed one after the other; and the message that they are.
 use mathlib.Core.Path.{_≡_}
 use mathlib.Core.List.{List, [], _∷_, _++_}
-use Prim.Native.Nat.{ℕ}
+use Prim.Native.Nat.{ℕ, _+_, _*_}
 use lib.ListN.{length}
 use Rattle.counter.specs.declared.Stream.{Stream}
-use Rattle.counter.specs.Calls.{codeOf, Left, fed}
+use Rattle.counter.specs.Calls.{left, codeOf, Left, fed}
 
 -- a piece of n bytes is done, to an output of n bytes
 abbrev pub Accepted : Stream → ℕ → Type 0
 Accepted s n = codeOf s n n ≡ 0
+
+-- how many bytes a stream can still give
+abbrev pub room : Stream → ℕ
+room s = s .unused + 16 * left (s .counter) (s .spent)
 
 unfoldable pub whole : List ℕ → List (List ℕ) → List ℕ
 whole p [] = p

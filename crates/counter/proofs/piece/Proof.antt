@@ -9,7 +9,7 @@ use denote.Ref.{now}
 use Rattle.answers.proofs.Outcome.{refuses, done}
 use Rattle.counter.specs.Steps.{counters}
 use Rattle.counter.proofs.Passing.{piece-passed}
-use Rattle.counter.proofs.Leaving.{room, fed-none, fed-is}
+use Rattle.counter.proofs.Leaving.{fits-left, fed-none, fed-is}
 use Rattle.counter.proofs.piece.Statement.{statement}
 use Rattle.counter.proofs.piece.Tie as tie
 
@@ -44,7 +44,7 @@ moves-requires c κs =
     let s = at .before .before .before .before .args .stream in
     let passed = piece-passed _ _ _ _ _ (sym (at .before .piece-code .ensures) ∙ at .if1 .left) in
     let lt : s .counter < counters = search needs in
-    let fits = room (s .counter) (s .spent) _ lt (passed .2) in
+    let fits = fits-left (s .counter) (s .spent) _ lt (passed .2) in
     (passed .0, omega arith)
 
 returns-3 : tie.Need-returns-3

@@ -1,4 +1,4 @@
--- A block that a loop writes byte by byte: below place i what is to stand there, from i on what stood there first.
+-- A buffer that a loop writes byte by byte, as the modes of operation above do: below place i what is to stand there, from i on what stood there first.
 use mathlib.Core.Path.{_≡_, sym, ap, ap₂, _∙_}
 use mathlib.Core.List.{List, _∷_, _++_, append-nil}
 use Prim.Native.Nat.{ℕ, suc, _+_, _<_, _≤_}
