@@ -1,7 +1,6 @@
--- Laws of the cipher's calls, and of buffers that are filled.
+-- Laws of the cipher's calls.
 pub mod Answers
 pub mod Blocks
 pub mod Many
 pub mod RoundTrip
 pub mod OneOutcome
-pub mod Filling

@@ -5,7 +5,7 @@ use Prim.Native.Nat.{ℕ, _-_, _≤_}
 use native.Mathlib.Omega.{arith}
 use lib.ListN.{length, length-set}
 use denote.Ref.{now}
-use Rattle.gift128.proofs.Filling.{written, written-more, written-all}
+use Rattle.bits.proofs.Filling.{written, written-more, written-all}
 use Rattle.counter.proofs.copy.Statement.{statement}
 use Rattle.counter.proofs.copy.Tie as tie
 

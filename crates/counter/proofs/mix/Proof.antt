@@ -8,7 +8,7 @@ use lib.Bits.{bitXor}
 use lib.ListN.{length, getD, length-set}
 use denote.Ref.{now}
 use Rattle.counter.specs.Standard.{_⊕_}
-use Rattle.gift128.proofs.Filling.{written, written-more, written-here, written-all}
+use Rattle.bits.proofs.Filling.{written, written-more, written-here, written-all}
 use Rattle.counter.proofs.Strings.{length-⊕, getD-⊕}
 use Rattle.counter.proofs.mix.Statement.{statement}
 use Rattle.counter.proofs.mix.Tie as tie
