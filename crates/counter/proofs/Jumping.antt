@@ -1,8 +1,8 @@
 -- Many bytes at once: what the code computes of a stream, its unused bytes, whole blocks and the start of one more, is what as many single steps give.
 use mathlib.Core.Path.{_≡_, refl, sym, ap, ap₂, _∙_}
 use mathlib.Core.Bool.{Bool, true, false, cond}
-use mathlib.Core.List.{List, [], _∷_, _++_, append-assoc, append-nil}
-use Prim.Native.Nat.{ℕ, zero, suc, _+_, _-_, _*_, _/_, _%_, _^_, _≤_, _<_}
+use mathlib.Core.List.{List, [], _∷_, _++_}
+use Prim.Native.Nat.{ℕ, zero, suc, _+_, _-_, _*_, _/_, _%_, _≤_, _<_}
 use native.Mathlib.Nat.{zero-add, suc-add, le-refl, le-of-suc-le-suc, not-suc-le-zero}
 use native.Mathlib.Omega.{arith}
 use lib.Dec.{eqb, leb, eqb·suc-suc, eqb·suc-zero}
@@ -12,12 +12,11 @@ use borrow.Author.Tests.{eq-eqb, ne-eqb, eqb-true, eqb-false, leb-true, leb-fals
 use Rattle.bits.proofs.Computed.{cond-true, cond-false}
 use Rattle.gift128.specs.Calls.{encryptedBy}
 use Rattle.counter.specs.declared.Stream.{Stream}
-use Rattle.counter.specs.declared.Place.{Place}
 use Rattle.counter.specs.Standard.{counterBlock, keyBlocks}
 use Rattle.counter.specs.Steps.{counters, zeroBlock, refilled, ready, used, keyByte, next, keyBytes, after}
 use Rattle.counter.specs.Calls.{needed}
-use Rattle.counter.specs.Inner.{newBytes, newBlock, bytesFrom, blockFrom, moved}
-use Rattle.counter.proofs.Blocks.{length-encrypted, length-blocks}
+use Rattle.counter.specs.Inner.{newBytes, newBlock, bytesFrom, blockFrom}
+use Rattle.counter.proofs.Blocks.{length-encrypted}
 
 -- ---- m bytes, and then n
 

@@ -2,7 +2,7 @@
 use mathlib.Core.Path.{_≡_, refl, sym, ap, ap₂, subst, _∙_}
 use mathlib.Core.Bool.{Bool, true, false, cond}
 use mathlib.Core.List.{List, [], _∷_, _++_, append-nil}
-use Prim.Native.Nat.{ℕ, zero, suc, _+_, _-_, _*_, _/_, _%_, _^_, _≤_, _<_}
+use Prim.Native.Nat.{ℕ, suc, _+_, _-_, _*_, _/_, _%_, _≤_, _<_}
 use native.Mathlib.Nat.{suc-ne-zero, le-of-eq}
 use native.Mathlib.Omega.{arith}
 use lib.Dec.{eqb, leb}
@@ -14,10 +14,10 @@ use Rattle.bits.proofs.Computed.{cond-true, cond-false}
 use Rattle.gift128.specs.Calls.{encryptedBy}
 use Rattle.counter.specs.declared.Stream.{Stream}
 use Rattle.counter.specs.declared.Place.{Place}
-use Rattle.counter.specs.Standard.{_⊕_, counterBlock, keyBlocks}
-use Rattle.counter.specs.Steps.{counters, zeroBlock, keyBytes, after}
+use Rattle.counter.specs.Standard.{_⊕_, keyBlocks}
+use Rattle.counter.specs.Steps.{counters, zeroBlock, after}
 use Rattle.counter.specs.Calls.{needed, left, Left, fed}
-use Rattle.counter.specs.Inner.{newBytes, newBlock, bytesFrom, blockFrom, moved, LastBytes, NewBytes, MoreBytes, KeyBytes}
+use Rattle.counter.specs.Inner.{newBytes, newBlock, moved, LastBytes, NewBytes, MoreBytes, KeyBytes}
 use Rattle.counter.proofs.Blocks.{blocks-more, length-blocks}
 use Rattle.counter.proofs.Jumping.{E, jump-bytes, jump-state}
 

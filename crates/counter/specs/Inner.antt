@@ -8,7 +8,7 @@ use lib.ListN.{take, drop}
 use Rattle.gift128.specs.Calls.{encryptedBy}
 use Rattle.counter.specs.declared.Place.{Place}
 use Rattle.counter.specs.Standard.{counterBlock, keyBlocks}
-use Rattle.counter.specs.Steps.{counters, zeroBlock}
+use Rattle.counter.specs.Steps.{counters}
 use Rattle.counter.specs.Calls.{needed}
 
 -- n bytes of new blocks, from the counter c on

@@ -2,7 +2,6 @@
 use mathlib.Core.Path.{_≡_, refl, sym, ap, _∙_}
 use mathlib.Core.List.{List}
 use Prim.Native.Nat.{ℕ, _+_, _-_, _/_, _%_, _≤_}
-use native.Mathlib.Nat.{le-of-eq}
 use native.Mathlib.Omega.{arith}
 use lib.ListN.{length, take, drop, length-take, length-drop}
 use lib.Seq.{take-all}
@@ -11,7 +10,6 @@ use denote.Ref.{now}
 use Rattle.gift128.specs.Calls.{encryptedBy}
 use Rattle.counter.specs.Standard.{keyBlocks}
 use Rattle.counter.proofs.Blocks.{blocks-none, one-more}
-use Rattle.counter.proofs.Jumping.{jump-state}
 use Rattle.counter.proofs.key_blocks.Statement.{statement}
 use Rattle.counter.proofs.key_blocks.Tie as tie
 

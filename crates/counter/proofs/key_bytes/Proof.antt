@@ -1,5 +1,4 @@
 -- `counter::key_bytes`: some of the unused bytes, or all and more.
-use native.Mathlib.Omega.{arith}
 use borrow.Author.Needs.{needs}
 use denote.Ref.{now}
 use Rattle.counter.proofs.Leaving.{key-few, key-many}
