@@ -2,7 +2,7 @@
  *
  * Every function is proved to answer as said here for all lengths, numbers, bytes and records. There is nothing to set up
  * or tear down, and nothing is kept between calls: all memory is the host's, and is lent for the length of one call. Calls
- * on different memory may run at the same time. The library takes no heap and some one KiB of stack (2.3 KiB for CMAC,
+ * on different memory may run at the same time. The library takes no heap and some one KiB of stack (1.3 KiB for streams, 2.3 KiB for CMAC,
  * 18 KiB where the plain engine is called), and calls nothing but memcpy and memset.
  *
  * A call answers 0 (GIFT_DONE) or the number of a refusal. Refusals are tried in the order given with each function, and
@@ -44,7 +44,7 @@ uint32_t gift_host_edition(void);
 /* The numbers given back. */
 #define GIFT_DONE 0
 #define GIFT_BAD_KEY_LENGTH 1    /* the key is not of 16 bytes */
-#define GIFT_BAD_BLOCK_LENGTH 2  /* a block, take buffer or tag is not of 16 bytes; many blocks: input not a multiple of 16 */
+#define GIFT_BAD_BLOCK_LENGTH 2  /* a block, take buffer or tag is not of 16 bytes, or a nonce not of 12; many blocks: input not a multiple of 16 */
 #define GIFT_BAD_OUTPUT_LENGTH 3 /* the output is not as long as the input */
 #define GIFT_BAD_WORD_COUNT 4    /* the round words are not 80 */
 #define GIFT_BAD_LANE 5          /* a lane number above 15 */
@@ -53,8 +53,9 @@ uint32_t gift_host_edition(void);
 #define GIFT_TOO_MANY_TURNS 8    /* more than 1,024 turns asked */
 #define GIFT_BAD_DIRECTION 9     /* a direction that is neither 0 nor 1 */
 #define GIFT_BAD_BENCH 10        /* not sixteen records, last served above 15, or a record that is not sound */
-#define GIFT_BAD_STATE 10        /* the same number: a gift_mac_state that claims more than 16 held bytes */
+#define GIFT_BAD_STATE 10        /* the same number: a gift_mac_state that claims more than 16 held bytes, or a gift_stream more than 15 unused ones */
 #define GIFT_NOT_THE_OWNER 11    /* opening with owner 0; taking from or closing a busy lane with another number than its owner's */
+#define GIFT_TOO_FEW_COUNTERS 12 /* a piece needs more counters than the stream has left */
 
 /* ---- one block, in place ---- */
 
@@ -206,6 +207,43 @@ gift_mac_told gift_mac_piece(gift_mac_state state, const uint8_t *piece, size_t 
 /* Writes the tag of what was fed so far. It ends nothing: the state may be fed on. Refusals: 10, 2. */
 uint32_t gift_mac_tag(gift_mac_state state, uint8_t *tag, size_t tag_len);
 
+/* ---- counter mode of NIST SP 800-38A, fed in pieces ----
+ *
+ * A counter block is 12 bytes of the host's, which stay, and a counter of 32 bits, the most significant byte first, which rises by 1 and never
+ * carries into them. The host keeps the stream and lends it for each piece. There is one state for each position of a stream, so that two may be
+ * compared byte for byte: where no byte is unused the block is zero, and where the last counter is used the counter is 0 and spent is 1.
+ * Encrypting and decrypting are the same.
+ *
+ * The same key and the same 12 bytes must not meet the same counter twice, in two streams or in one that was kept and used again: the library
+ * cannot see that.
+ */
+
+#define GIFT_NONCE_SIZE 12 /* bytes of the host's in a counter block */
+
+/* A stream: 360 bytes, aligned to 4, none of them padding. */
+typedef struct gift_stream {
+    uint32_t words[GIFT_WORDS];     /* at 0: the round words */
+    uint8_t nonce[GIFT_NONCE_SIZE]; /* at 320: the host's 12 bytes */
+    uint32_t counter;               /* at 332: the next counter */
+    uint8_t block[GIFT_BLOCK_SIZE]; /* at 336: the block of the key stream that was made last, zero if it is used up */
+    uint32_t unused;                /* at 352: how many of its bytes, the last ones, are not used yet: 0 to 15, more is refused with 10 */
+    uint32_t spent;                 /* at 356: 0 while there is a counter left */
+} gift_stream;
+
+/* What a start tells. */
+typedef struct gift_stream_started {
+    uint32_t code; /* 0, or the refusal */
+    gift_stream stream;
+} gift_stream_started;
+
+/* A stream at its first counter. Refused, it gives one that is all zero and spent. Refusals: 1, 2 (not 12 bytes). */
+gift_stream_started gift_stream_start(const uint8_t *key, size_t key_len, const uint8_t *nonce, size_t nonce_len, uint32_t counter);
+
+/* A piece of any length, 0 too, from one buffer to another of the same length, and the stream moves on. However a message is cut, the same bytes are
+ * written, and the stream is the same in the end. 12 exactly if the piece needs more new blocks than counters are left: the bytes unused are served
+ * even if none is, and an empty piece is never refused with 12. Refusals: 10, 3, 12. */
+uint32_t gift_stream_piece(gift_stream *stream, const uint8_t *input, size_t input_len, uint8_t *output, size_t output_len);
+
 /* The layout above, held to the compiler's where it can say so. */
 #if defined(__cplusplus) && __cplusplus >= 201103L
 #define GIFT_HOST_HOLDS(test) static_assert(test, #test)
@@ -219,6 +257,8 @@ GIFT_HOST_HOLDS(sizeof(gift_turns) == 12);
 GIFT_HOST_HOLDS(sizeof(gift_mac_state) == 356);
 GIFT_HOST_HOLDS(sizeof(gift_mac_told) == 360);
 GIFT_HOST_HOLDS(sizeof(gift_mac_checked) == 8);
+GIFT_HOST_HOLDS(sizeof(gift_stream) == 360);
+GIFT_HOST_HOLDS(sizeof(gift_stream_started) == 364);
 #ifdef offsetof
 GIFT_HOST_HOLDS(offsetof(gift_lane, direction) == 1);
 GIFT_HOST_HOLDS(offsetof(gift_lane, owner) == 2);
@@ -229,6 +269,12 @@ GIFT_HOST_HOLDS(offsetof(gift_mac_state, chain) == 320);
 GIFT_HOST_HOLDS(offsetof(gift_mac_state, held) == 336);
 GIFT_HOST_HOLDS(offsetof(gift_mac_state, count) == 352);
 GIFT_HOST_HOLDS(offsetof(gift_mac_checked, yes) == 4);
+GIFT_HOST_HOLDS(offsetof(gift_stream_started, stream) == 4);
+GIFT_HOST_HOLDS(offsetof(gift_stream, nonce) == 320);
+GIFT_HOST_HOLDS(offsetof(gift_stream, counter) == 332);
+GIFT_HOST_HOLDS(offsetof(gift_stream, block) == 336);
+GIFT_HOST_HOLDS(offsetof(gift_stream, unused) == 352);
+GIFT_HOST_HOLDS(offsetof(gift_stream, spent) == 356);
 #endif
 #undef GIFT_HOST_HOLDS
 #endif

@@ -9,11 +9,10 @@
 #include <string.h>
 
 #include "../include/gift_host.h"
+#include "measure.h"
 
 #define SAMPLES 1001
 #define PASSES 15
-#define STACK 131072
-#define PAINT 0xa5
 #define MANY 32
 #define OWNER 1 /* the guest that has every lane */
 
@@ -116,14 +115,6 @@ static void keep(uint32_t n, uint32_t asked)
 
 /* ---- time */
 
-static uint64_t now(void)
-{
-    __builtin_ia32_lfence();
-    uint64_t t = __builtin_ia32_rdtsc();
-    __builtin_ia32_lfence();
-    return t;
-}
-
 static uint64_t once(void (*call)(void))
 {
     memcpy(lanes, kept, sizeof lanes);
@@ -170,23 +161,6 @@ static struct times timed(void (*call)(void), void (*unit)(void))
 }
 
 /* ---- stack */
-
-static uint8_t stack[STACK] __attribute__((aligned(64)));
-
-static size_t depth(void (*call)(void))
-{
-    memset(stack, PAINT, sizeof stack);
-    __asm__ volatile("movq %%rsp, %%rbx\n\tmovq %0, %%rsp\n\tcall *%1\n\tmovq %%rbx, %%rsp"
-                     :
-                     : "r"(stack + sizeof stack), "r"(call)
-                     : "rbx", "rax", "rcx", "rdx", "rsi", "rdi", "r8", "r9", "r10", "r11", "cc", "memory",
-                       "xmm0", "xmm1", "xmm2", "xmm3", "xmm4", "xmm5", "xmm6", "xmm7",
-                       "xmm8", "xmm9", "xmm10", "xmm11", "xmm12", "xmm13", "xmm14", "xmm15");
-    size_t i = 0;
-    while (i < sizeof stack && stack[i] == PAINT)
-        i++;
-    return sizeof stack - i;
-}
 
 /* Of a function that does nothing only the return address lies there, which is the call's own. What the loader does at the first call is not. */
 static size_t stack_of(void (*call)(void))

@@ -6,18 +6,12 @@
 #include <string.h>
 
 #include "../include/gift_host.h"
+#include "measure.h"
 
 #define MOST 65536
 #define PASSES 400
 
 static uint8_t message[MOST], key[GIFT_KEY_SIZE];
-
-static uint64_t now(void)
-{
-    uint32_t low, high;
-    __asm__ volatile("lfence; rdtsc; lfence" : "=a"(low), "=d"(high) : : "memory");
-    return (uint64_t)high << 32 | low;
-}
 
 /* the chained block calls: the cipher's own time, block after block */
 static void chained(size_t len, uint8_t *block)

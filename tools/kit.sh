@@ -26,3 +26,22 @@ prove_library() {
     tail -n 20 target/hosts/staticlib.log >&2
     exit 1
 }
+
+# measure NAME: builds speed/NAME.c over the library for hosts with the kit's own compiler, linker and C library, and runs it.
+# Ends the script with status 1 if something is not proved, with 2 if something is missing, and else as the program does. Run at the top of the repository.
+measure() {
+    need_kit "speed/$1"
+    if [ "$(uname -m)" != x86_64 ]; then
+        echo "speed/$1: the library is x86-64 code, and a time measured under an emulator says nothing." >&2
+        exit 2
+    fi
+    prove_library "speed/$1"
+    out=target/hosts
+    # The kit has no headers: those of hosts/c/libc say what the programs need.
+    "$tools/bin/clang" --target=x86_64-linux-gnu -std=c11 -O2 -fPIE -nostdinc -isystem hosts/c/libc \
+        -Wall -Wextra -Wpedantic -Werror -c -o "$out/$1.o" "speed/$1.c" &&
+        "$tools/bin/ld.lld" -pie -dynamic-linker /lib64/ld-linux-x86-64.so.2 -o "$out/$1" \
+            "$tools/lib/Scrt1.o" "$tools/lib/crti.o" "$out/$1.o" target/staticlib/libgift_host.a "$tools/lib/libc.so.6" "$tools/lib/crtn.o" ||
+        { echo "speed/$1: $1.c is not built" >&2; exit 2; }
+    run "$out/$1"
+}

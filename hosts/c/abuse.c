@@ -1,5 +1,5 @@
 /* A random walk of 100,000 calls over everything that the library exports, with good and bad arguments and with guests that steal, and after it every bit
- * of an idle record set alone, then one of CMAC. Each call is held to model.h: the number given back, every byte, word and record lent, and every byte round them, so that a record is looked
+ * of an idle record set alone, then one of CMAC and one of streams. Each call is held to model.h: the number given back, every byte, word and record lent, and every byte round them, so that a record is looked
  * at byte by byte after each take and close. The same calls on each run. Exit status 1 if anything differs. */
 #include <stdio.h>
 #include <string.h>
@@ -8,12 +8,14 @@
 
 #define CALLS 100000
 #define MAC_CALLS 20000 /* of CMAC, after those */
+#define STREAM_CALLS 20000 /* of streams, after those */
 #define RECORDS (LANES + 2) /* of which the first are a bench */
 
 /* The header's names are document 01's numbers. */
 _Static_assert(GIFT_DONE == 0 && GIFT_BAD_KEY_LENGTH == 1 && GIFT_BAD_BLOCK_LENGTH == 2 && GIFT_BAD_OUTPUT_LENGTH == 3, "0 to 3");
 _Static_assert(GIFT_BAD_WORD_COUNT == 4 && GIFT_BAD_LANE == 5 && GIFT_LANE_NOT_IDLE == 6 && GIFT_LANE_NOT_FINISHED == 7, "4 to 7");
-_Static_assert(GIFT_TOO_MANY_TURNS == 8 && GIFT_BAD_DIRECTION == 9 && GIFT_BAD_BENCH == 10 && GIFT_BAD_STATE == 10 && GIFT_NOT_THE_OWNER == 11, "8 to 11");
+_Static_assert(GIFT_TOO_MANY_TURNS == 8 && GIFT_BAD_DIRECTION == 9 && GIFT_BAD_BENCH == 10 && GIFT_BAD_STATE == 10, "8 to 10");
+_Static_assert(GIFT_NOT_THE_OWNER == 11 && GIFT_TOO_FEW_COUNTERS == 12, "11, 12");
 _Static_assert(GIFT_IDLE == 0 && GIFT_RUNNING == 1 && GIFT_FINISHED == 2 && GIFT_ENCRYPT == 0 && GIFT_DECRYPT == 1, "phases and directions");
 _Static_assert(GIFT_BLOCK_SIZE == 16 && GIFT_KEY_SIZE == 16 && GIFT_WORDS == 80 && GIFT_LANES == LANES && GIFT_FRESH_LAST == LANES - 1, "sizes");
 _Static_assert(GIFT_MOST_TURNS == 1024 && GIFT_TURNS_OF_A_LANE == 8, "turns");
@@ -121,17 +123,18 @@ static uint8_t *expected(room *r)
 enum {
     ENCRYPT_BY_KEY, DECRYPT_BY_KEY, ENCRYPT_BY_WORDS, DECRYPT_BY_WORDS, EXPAND, ENCRYPT_BLOCKS,
     DECRYPT_BLOCKS, OPEN_LANE, TURN, TAKE, CLOSE, MAC, MAC_CHECK, MAC_START, MAC_PIECE, MAC_TAG,
-    PLAIN_ENCRYPT, PLAIN_DECRYPT, KINDS
+    STREAM_START, STREAM_PIECE, PLAIN_ENCRYPT, PLAIN_DECRYPT, KINDS
 };
 
 static const char *const names[KINDS] = {
     "gift_encrypt_by_key", "gift_decrypt_by_key", "gift_encrypt_by_words", "gift_decrypt_by_words", "gift_expand", "gift_encrypt_blocks",
     "gift_decrypt_blocks", "gift_open_lane", "gift_turn", "gift_take", "gift_close",
     "gift_mac", "gift_mac_check", "gift_mac_start", "gift_mac_piece", "gift_mac_tag",
+    "gift_stream_start", "gift_stream_piece",
     "gift_plain_encrypt_by_key", "gift_plain_decrypt_by_key",
 };
 
-static unsigned calls, differences, given[KINDS][12];
+static unsigned calls, differences, given[KINDS][13];
 
 /* Counts a difference, and starts to tell it if there were not many before. */
 static int differs(unsigned kind)
@@ -613,6 +616,62 @@ static void on_a_state(void)
         mac.count = right;
 }
 
+/* ---- streams ---- */
+
+static room streams;
+static gift_stream stream; /* as the model has it */
+static unsigned forged, spent_served;
+
+static void start_stream(void)
+{
+    gift_stream_started told;
+    uint32_t must, first = below(2) ? (uint32_t)next() : (uint32_t)-1 - below(6);
+    lend(&keys, "key", length(16), 1);
+    lend(&blocks, "nonce", length(12), 1);
+    must = stream_start_number(keys.length, blocks.length);
+    model_stream_start(&stream, must == 0 ? expected(&keys) : NULL, expected(&blocks), first);
+    told = gift_stream_start(part(&keys), keys.length, part(&blocks), blocks.length, first);
+    hold(STREAM_START, told.code, must);
+    if (memcmp(&told.stream, &stream, sizeof stream) != 0 && differs(STREAM_START))
+        printf("the stream given back is not what it must be\n");
+}
+
+static void stream_piece(void)
+{
+    uint32_t number, must;
+    lend(&streams, "stream", 1, sizeof stream);
+    lend(&blocks, "input", below(4) ? below(40) : 16 * below(5), 1);
+    lend(&outputs, "output", length(blocks.length), 1);
+    memcpy(part(&streams), &stream, sizeof stream);
+    must = stream_piece_number(&stream, blocks.length, outputs.length);
+    if (must == 0) {
+        spent_served += stream.spent && blocks.length > 0;
+        model_stream_piece(&stream, expected(&blocks), blocks.length, expected(&outputs));
+    }
+    memcpy(expected(&streams), &stream, sizeof stream);
+    number = gift_stream_piece(part(&streams), part(&blocks), blocks.length, part(&outputs), outputs.length);
+    hold(STREAM_PIECE, number, must);
+}
+
+/* Now and then the stream is the host's: any words, bytes and numbers, and for one call more than 15 unused. */
+static void on_a_stream(void)
+{
+    uint32_t right = stream.unused;
+    int damaged = bad();
+    if (below(40) == 0) {
+        for (size_t i = 0; i < sizeof stream; i++)
+            ((uint8_t *)&stream)[i] = (uint8_t)next();
+        right = stream.unused = below(16);
+        stream.spent = below(2) ? 0 : (uint32_t)next();
+        forged++;
+    }
+    if (damaged)
+        stream.unused = number_above(15);
+    stream_piece();
+    if (damaged)
+        stream.unused = right;
+}
+
 int main(void)
 {
     if (gift_host_edition() != GIFT_HOST_EDITION) {
@@ -642,13 +701,20 @@ int main(void)
         default: on_a_state(); break;
         }
     }
+    for (unsigned end = calls + STREAM_CALLS; calls < end;) {
+        mischief = below(8) < 5 ? 0 : below(4) ? 2 : 5;
+        if (below(10) == 0)
+            start_stream();
+        else
+            on_a_stream();
+    }
 
     printf("%-22s", "number given back:");
-    for (unsigned number = 0; number <= 11; number++)
+    for (unsigned number = 0; number <= 12; number++)
         printf("%7u", number);
     for (unsigned kind = 0; kind < PLAIN_ENCRYPT; kind++) {
         printf("\n%-22s", names[kind]);
-        for (unsigned number = 0; number <= 11; number++)
+        for (unsigned number = 0; number <= 12; number++)
             printf("%7u", given[kind][number]);
     }
     printf("\n");
@@ -660,6 +726,7 @@ int main(void)
     printf("%u of the calls by a key were made by the plain engine, too, on the same memory\n",
            given[PLAIN_ENCRYPT][0] + given[PLAIN_ENCRYPT][1] + given[PLAIN_ENCRYPT][2] + given[PLAIN_DECRYPT][0] + given[PLAIN_DECRYPT][1] + given[PLAIN_DECRYPT][2]);
     printf("%u checks said yes; %u tags of states were those of the whole message; %u stored tags\n", yeses, whole_tags, known_tags());
+    printf("%u streams were the host's; %u pieces were served by one that is spent\n", forged, spent_served);
     printf("%u calls, %u differences\n", calls, differences);
     return differences > 0;
 }

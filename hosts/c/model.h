@@ -427,3 +427,46 @@ static uint32_t tag_number(const gift_mac_state *s, size_t tag_len)
 {
     return s->count > 16 ? 10 : tag_len != 16 ? 2 : 0;
 }
+
+/* ---- counter mode of NIST SP 800-38A, byte by byte ---- */
+
+static void model_stream_start(gift_stream *s, const uint8_t *key, const uint8_t *nonce, uint32_t counter)
+{
+    *s = (gift_stream){0};
+    if (key == NULL) {
+        s->spent = 1;
+        return;
+    }
+    model_expand(key, s->words);
+    for (unsigned i = 0; i < 12; i++)
+        s->nonce[i] = nonce[i];
+    s->counter = counter;
+}
+
+static void model_stream_piece(gift_stream *s, const uint8_t *input, size_t len, uint8_t *output)
+{
+    for (size_t n = 0; n < len; n++) {
+        if (s->unused == 0) {
+            for (unsigned i = 0; i < 16; i++)
+                s->block[i] = i < 12 ? s->nonce[i] : (uint8_t)(s->counter >> 8 * (15 - i));
+            model_by_words(0, s->words, s->block, s->block);
+            s->unused = 16;
+            if (++s->counter == 0)
+                s->spent = 1;
+        }
+        output[n] = (uint8_t)(input[n] ^ s->block[16 - s->unused--]);
+        for (unsigned i = 0; s->unused == 0 && i < 16; i++)
+            s->block[i] = 0;
+    }
+}
+
+static uint32_t stream_start_number(size_t key_len, size_t nonce_len)
+{
+    return key_len != 16 ? 1 : nonce_len != 12 ? 2 : 0;
+}
+
+static uint32_t stream_piece_number(const gift_stream *s, size_t input_len, size_t output_len)
+{
+    uint64_t left = s->spent ? 0 : ((uint64_t)1 << 32) - s->counter;
+    return s->unused > 15 ? 10 : output_len != input_len ? 3 : input_len > s->unused + 16 * left ? 12 : 0;
+}

@@ -11,6 +11,7 @@ ghost use denote.Ref.{now};
 ghost use Rattle.published.specs.Calls.{EncryptsByKey, DecryptsByKey};
 ghost use Rattle.key_schedule.specs.Expand.{Expands};
 ghost use Rattle.gift128.specs.Calls.{EncryptsByWords, DecryptsByWords, EncryptsBlocks, DecryptsBlocks};
+ghost use Rattle.counter.specs.Calls.{Starts as StartsStream, Feeds as FeedsStream};
 ghost use Rattle.cmac.specs.Calls.{TagsWhole, Checks, Starts, Feeds, TagsState};
 ghost use Rattle.bench_lent.specs.Lent.{Opens, Serves, Takes, Closes};
 ghost use Rattle.gift_host.specs.Edition.{edition};
@@ -177,4 +178,26 @@ pub extern "C" fn gift_mac_tag(state: Mac, tag: &mut [u8]) -> u32
     ensures { λ r. ⌜ TagsState state (now (tag .entry)) r (now (tag .exit)) ⌝ }
 {
     cmac::tag(state, tag)
+}
+
+// Counter mode. A start gives a stream, which the host keeps: 1, 2.
+#[no_mangle]
+pub extern "C" fn gift_stream_start(key: &[u8], nonce: &[u8], counter: u32) -> counter::Started
+    ensures { λ r. ⌜ StartsStream (now (key .entry)) (now (nonce .entry)) counter (r .code) (r .stream) ⌝ }
+{
+    counter::start(key, nonce, counter)
+}
+
+// A piece, over the host's own stream: 10, 3, 12. What comes back takes its place.
+#[no_mangle]
+pub extern "C" fn gift_stream_piece(
+    stream: &mut counter::Stream,
+    input: &[u8],
+    output: &mut [u8],
+) -> u32
+    ensures { λ r. ⌜ FeedsStream (now (stream .entry)) (now (input .entry)) (now (output .entry)) r (now (stream .exit)) (now (output .exit)) ⌝ }
+{
+    let fed = counter::piece(*stream, input, output);
+    *stream = fed.stream;
+    fed.code
 }

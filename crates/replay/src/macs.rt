@@ -14,36 +14,10 @@ use crate::text::number;
 use crate::text::says_bytes;
 use crate::text::says_number;
 use crate::text::says_one;
+use crate::text::sixteen;
 use cmac::Mac;
-use primitives::State;
 
 // ---- states
-
-fn byte(w: u32, n: u32) -> u8 {
-    ((w >> (n % 32)) % 256) as u8
-}
-
-// The sixteen bytes of four words.
-fn sixteen(s: State) -> [u8; 16] {
-    [
-        byte(s.s0, 24),
-        byte(s.s0, 16),
-        byte(s.s0, 8),
-        byte(s.s0, 0),
-        byte(s.s1, 24),
-        byte(s.s1, 16),
-        byte(s.s1, 8),
-        byte(s.s1, 0),
-        byte(s.s2, 24),
-        byte(s.s2, 16),
-        byte(s.s2, 8),
-        byte(s.s2, 0),
-        byte(s.s3, 24),
-        byte(s.s3, 16),
-        byte(s.s3, 8),
-        byte(s.s3, 0),
-    ]
-}
 
 fn state(line: &[u8]) -> Mac {
     let words = words_told(line, b"key", b"words");

@@ -130,6 +130,50 @@ pub(crate) fn four(line: &[u8], name: &[u8]) -> State {
     }
 }
 
+fn byte(w: u32, n: u32) -> u8 {
+    ((w >> (n % 32)) % 256) as u8
+}
+
+// The sixteen bytes of four words.
+pub(crate) fn sixteen(s: State) -> [u8; 16] {
+    [
+        byte(s.s0, 24),
+        byte(s.s0, 16),
+        byte(s.s0, 8),
+        byte(s.s0, 0),
+        byte(s.s1, 24),
+        byte(s.s1, 16),
+        byte(s.s1, 8),
+        byte(s.s1, 0),
+        byte(s.s2, 24),
+        byte(s.s2, 16),
+        byte(s.s2, 8),
+        byte(s.s2, 0),
+        byte(s.s3, 24),
+        byte(s.s3, 16),
+        byte(s.s3, 8),
+        byte(s.s3, 0),
+    ]
+}
+
+// The twelve bytes of the first three.
+pub(crate) fn twelve(s: State) -> [u8; 12] {
+    [
+        byte(s.s0, 24),
+        byte(s.s0, 16),
+        byte(s.s0, 8),
+        byte(s.s0, 0),
+        byte(s.s1, 24),
+        byte(s.s1, 16),
+        byte(s.s1, 8),
+        byte(s.s1, 0),
+        byte(s.s2, 24),
+        byte(s.s2, 16),
+        byte(s.s2, 8),
+        byte(s.s2, 0),
+    ]
+}
+
 pub(crate) fn args(line: &[u8]) -> State {
     four(line, b"args")
 }

@@ -7,6 +7,7 @@
 use core::sync::atomic::{AtomicBool, Ordering};
 
 use crate::bench::Lane;
+use crate::counter::Stream;
 use crate::mac::MacState;
 use crate::Refusal;
 
@@ -38,8 +39,15 @@ struct MacChecked {
     yes: u8,
 }
 
+#[repr(C)]
+struct StreamStarted {
+    code: u32,
+    stream: Stream,
+}
+
 const _: () = assert!(size_of::<Told>() == 12);
 const _: () = assert!(size_of::<MacTold>() == 360 && size_of::<MacChecked>() == 8);
+const _: () = assert!(size_of::<StreamStarted>() == 364);
 
 extern "C" {
     fn gift_host_edition() -> u32;
@@ -130,6 +138,20 @@ extern "C" {
     fn gift_mac_start(key: *const u8, key_len: usize) -> MacTold;
     fn gift_mac_piece(state: MacState, piece: *const u8, piece_len: usize) -> MacTold;
     fn gift_mac_tag(state: MacState, tag: *mut u8, tag_len: usize) -> u32;
+    fn gift_stream_start(
+        key: *const u8,
+        key_len: usize,
+        nonce: *const u8,
+        nonce_len: usize,
+        counter: u32,
+    ) -> StreamStarted;
+    fn gift_stream_piece(
+        stream: *mut Stream,
+        input: *const u8,
+        input_len: usize,
+        output: *mut u8,
+        output_len: usize,
+    ) -> u32;
 }
 
 /// The edition of the library that this crate declares, as GIFT_HOST_EDITION of include/gift_host.h.
@@ -360,4 +382,34 @@ pub fn mac_piece(state: &mut MacState, piece: &[u8]) -> Result<(), Refusal> {
 pub fn mac_tag(state: &MacState, tag: &mut [u8]) -> Result<(), Refusal> {
     linked();
     answer(unsafe { gift_mac_tag(*state, tag.as_mut_ptr(), tag.len()) })
+}
+
+/// A stream at its first counter. Refusals: 1, 2.
+pub fn stream_start(key: &[u8], nonce: &[u8], counter: u32) -> Result<Stream, Refusal> {
+    linked();
+    let told = unsafe {
+        gift_stream_start(
+            key.as_ptr(),
+            key.len(),
+            nonce.as_ptr(),
+            nonce.len(),
+            counter,
+        )
+    };
+    answer(told.code)?;
+    Ok(told.stream)
+}
+
+/// A piece, from one buffer to another of the same length. Refusals: 10, 3, 12, and then stream and output are as they were.
+pub fn stream_piece(stream: &mut Stream, input: &[u8], output: &mut [u8]) -> Result<(), Refusal> {
+    linked();
+    answer(unsafe {
+        gift_stream_piece(
+            stream,
+            input.as_ptr(),
+            input.len(),
+            output.as_mut_ptr(),
+            output.len(),
+        )
+    })
 }

@@ -6,12 +6,14 @@
 
 mod bench;
 pub mod calls;
+mod counter;
 mod mac;
 mod refusal;
 
 use core::fmt;
 
 pub use bench::{Bench, Direction, Lane, Owner, State};
+pub use counter::{Counter, Stream};
 pub use mac::{Mac, MacState};
 pub use refusal::Refusal;
 

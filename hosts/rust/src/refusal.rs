@@ -1,4 +1,4 @@
-//! The eleven refusals, by name and by number.
+//! The twelve refusals, by name and by number.
 
 use core::fmt;
 
@@ -8,7 +8,7 @@ use core::fmt;
 pub enum Refusal {
     /// 1: the key is not of 16 bytes.
     BadKeyLength = 1,
-    /// 2: a block or take buffer is not of 16 bytes; many blocks: the input's length is not a multiple of 16.
+    /// 2: a block, take buffer or tag is not of 16 bytes, or a nonce not of 12; many blocks: the input's length is not a multiple of 16.
     BadBlockLength = 2,
     /// 3: the output is not as long as the input.
     BadOutputLength = 3,
@@ -24,15 +24,17 @@ pub enum Refusal {
     TooManyTurns = 8,
     /// 9: a direction that is neither 0 nor 1.
     BadDirection = 9,
-    /// 10: not sixteen records, last served above 15, or a record that is not sound; or a [`crate::MacState`] that claims more than 16 held bytes.
+    /// 10: not sixteen records, last served above 15, or a record that is not sound; or a [`crate::MacState`] that claims more than 16 held bytes, or a [`crate::Stream`] more than 15 unused ones.
     BadBench = 10,
     /// 11: opening with owner 0; taking from or closing a busy lane with another number than its owner's.
     NotTheOwner = 11,
+    /// 12: a piece needs more counters than the stream has left.
+    TooFewCounters = 12,
 }
 
 impl Refusal {
-    /// All eleven, in the order of their numbers.
-    pub const ALL: [Refusal; 11] = [
+    /// All twelve, in the order of their numbers.
+    pub const ALL: [Refusal; 12] = [
         Refusal::BadKeyLength,
         Refusal::BadBlockLength,
         Refusal::BadOutputLength,
@@ -44,9 +46,10 @@ impl Refusal {
         Refusal::BadDirection,
         Refusal::BadBench,
         Refusal::NotTheOwner,
+        Refusal::TooFewCounters,
     ];
 
-    /// Its number, 1 to 11.
+    /// Its number, 1 to 12.
     pub const fn number(self) -> u32 {
         self as u32
     }
@@ -84,6 +87,7 @@ impl fmt::Display for Refusal {
             Refusal::BadDirection => "the direction is neither 0 nor 1",
             Refusal::BadBench => "the bench is not sound",
             Refusal::NotTheOwner => "the lane is another's",
+            Refusal::TooFewCounters => "the stream has too few counters left",
         })
     }
 }
