@@ -124,8 +124,10 @@ fn encrypt_state(s: State, words: &[u32]) -> State
     let mut state = s;
     let mut i: usize = 0;
     while i < 28 {
-        let t = round_0(state, words[i], round_constant(i));
-        state = round_1(t, words[i + 1], round_constant(i + 1));
+        let c = round_constant(i);
+        let d = round_constant(i + 1);
+        let t = round_0(state, words[i], c);
+        state = round_1(t, words[i + 1], d);
         i += 2;
     }
     state
@@ -140,8 +142,10 @@ fn decrypt_state(s: State, words: &[u32]) -> State
     let mut i: usize = 28;
     while 0 < i {
         i -= 2;
-        let t = unround_1(state, words[i + 1], round_constant(i + 1));
-        state = unround_0(t, words[i], round_constant(i));
+        let c = round_constant(i);
+        let d = round_constant(i + 1);
+        let t = unround_1(state, words[i + 1], d);
+        state = unround_0(t, words[i], c);
     }
     state
 }

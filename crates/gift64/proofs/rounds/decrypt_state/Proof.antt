@@ -26,7 +26,8 @@ loop-holds c = (refl, omega arith, omega arith, refl)
 
 loop-again : tie.Need-loop-again Inv-loop μ-loop
 loop-again c =
-    let first = c .before .before .before in
+    let first = c .before .before in
+    let second = first .before .before in
     let at = c .before .before .before .before .before .before .before in
     let l = at .loop in
     let start = at .before .before in
@@ -37,7 +38,7 @@ loop-again c =
       omega arith,
       omega arith,
       undone-words 0 _ _ _ (c .unround-0 .ensures),
-      backward ws i (omega arith) (omega arith) (l .state) (first .unround-1 .result) _ (c .before .round-constant2 .ensures) (first .before .round-constant .ensures)
+      backward ws i (omega arith) (omega arith) (l .state) (first .unround-1 .result) _ (second .before .round-constant .ensures) (second .round-constant2 .ensures)
           x (l .inv .2) (λ r. at .before .shared-slice-known .given r .fits) (first .unround-1 .ensures) (c .unround-0 .ensures)
           (l .inv .3 ∙ ap (λ (j : ℕ). unrounds64 (pairsIn (28 - j) j ws) j x) two),
     )
@@ -57,15 +58,15 @@ decrypt-state-spec =
     μ-loop
     loop-holds
     (λ c. omega arith)
+    (λ c κs. search needs)
     (λ c. omega arith)
+    (λ c κs. search needs)
     (λ c. omega arith)
     (λ c. omega arith)
     (λ c. omega arith)
     (λ c κs. search needs)
-    (λ c κs. search needs)
     (λ c. omega arith)
     (λ c. omega arith)
-    (λ c κs. search needs)
     (λ c κs. search needs)
     (λ c. omega arith)
     loop-again

@@ -24,12 +24,13 @@ loop-holds c = (refl, omega arith, refl)
 
 loop-again : tie.Need-loop-again Inv-loop μ-loop
 loop-again c =
-    let first = c .before .before .before in
+    let first = c .before .before in
+    let second = first .before .before in
     let l = c .before .before .before .before .before .before .before .loop in
     let ws : List ℕ = now (c .before .before .before .before .before .before .before .before .before .args .words) in (
       omega arith,
       omega arith,
-      forward ws (l .i) (l .inv .0) (omega arith) (l .state) (first .round-0 .result) _ (first .before .round-constant .ensures) (c .before .round-constant2 .ensures)
+      forward ws (l .i) (l .inv .0) (omega arith) (l .state) (first .round-0 .result) _ (second .before .round-constant .ensures) (second .round-constant2 .ensures)
           (first .round-0 .ensures) (c .round-1 .ensures)
           ∙ l .inv .2,
     )
@@ -51,15 +52,15 @@ encrypt-state-spec =
     Inv-loop
     μ-loop
     loop-holds
+    (λ c κs. search needs)
+    (λ c. omega arith)
+    (λ c κs. search needs)
     (λ c. omega arith)
     (λ c. omega arith)
     (λ c κs. search needs)
-    (λ c κs. search needs)
     (λ c. omega arith)
     (λ c. omega arith)
     (λ c. omega arith)
-    (λ c. omega arith)
-    (λ c κs. search needs)
     (λ c κs. search needs)
     (λ c. omega arith)
     (λ c. omega arith)
