@@ -6,12 +6,14 @@
 
 mod bench;
 pub mod calls;
+mod gift64;
 mod mac;
 mod refusal;
 
 use core::fmt;
 
 pub use bench::{Bench, Direction, Lane, Owner, State};
+pub use gift64::Gift64;
 pub use mac::{Mac, MacState};
 pub use refusal::Refusal;
 
