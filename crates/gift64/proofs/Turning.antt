@@ -4,9 +4,9 @@ use mathlib.Core.Bool.{Bool}
 use Prim.Native.Nat.{ℕ, suc, _+_, _-_, _*_, _/_, _%_, _^_, _<_, zero-le}
 use native.Mathlib.Nat.{mod-lt, lt-of-le-of-lt, lt-of-lt-of-le, div-le-self}
 use native.Mathlib.Omega.{arith}
-use lib.Bits.{bitXor, xor-lt}
-use lib.Dec.{T, eqb, eqb→eq, ltb, ltb→lt, lit<, lit≤}
-use Rattle.bits.specs.Digit.{bit, ofBits, _⊕_}
+use lib.Bits.{xor-lt}
+use lib.Dec.{eqb, eqb→eq, ltb, ltb→lt, lit<, lit≤}
+use Rattle.bits.specs.Digit.{bit, _⊕_}
 use Rattle.bits.proofs.Bits.{bit-ofBits, bit-out, bit-shr, bit-xor, ofBits-lt, ⊕-false}
 use Rattle.bits.proofs.Computed.{below, at}
 use Rattle.published.specs.Rounds.{Pair, entry, constant, round, unround}
