@@ -1,4 +1,4 @@
-/* GIFT-128 for hosts: the functions of libgift_host.a, which `rt staticlib gift_host` writes for x86-64 Linux.
+/* GIFT-128 and GIFT-64 for hosts: the functions of libgift_host.a, which `rt staticlib gift_host` writes for x86-64 Linux.
  *
  * Every function is proved to answer as said here for all lengths, numbers, bytes and records. There is nothing to set up
  * or tear down, and nothing is kept between calls: all memory is the host's, and is lent for the length of one call. Calls
@@ -44,7 +44,7 @@ uint32_t gift_host_edition(void);
 /* The numbers given back. */
 #define GIFT_DONE 0
 #define GIFT_BAD_KEY_LENGTH 1    /* the key is not of 16 bytes */
-#define GIFT_BAD_BLOCK_LENGTH 2  /* a block, take buffer or tag is not of 16 bytes, or a nonce not of 12; many blocks: input not a multiple of 16 */
+#define GIFT_BAD_BLOCK_LENGTH 2  /* a block, take buffer or tag is not of 16 bytes, or a nonce not of 12; many blocks: input not a multiple of 16; GIFT-64: 8 */
 #define GIFT_BAD_OUTPUT_LENGTH 3 /* the output is not as long as the input */
 #define GIFT_BAD_WORD_COUNT 4    /* the round words are not 80 */
 #define GIFT_BAD_LANE 5          /* a lane number above 15 */
@@ -243,6 +243,24 @@ gift_stream_started gift_stream_start(const uint8_t *key, size_t key_len, const 
  * written, and the stream is the same in the end. 12 exactly if the piece needs more new blocks than counters are left: the bytes unused are served
  * even if none is, and an empty piece is never refused with 12. Refusals: 10, 3, 12. */
 uint32_t gift_stream_piece(gift_stream *stream, const uint8_t *input, size_t input_len, uint8_t *output, size_t output_len);
+
+/* ---- GIFT-64: blocks of 8 bytes, keys of 16; numbers and orders as above ---- */
+
+#define GIFT64_BLOCK_SIZE 8 /* bytes of a block */
+
+/* One block by a key, in place. Refusals: 1, 2. */
+uint32_t gift64_encrypt_by_key(const uint8_t *key, size_t key_len, uint8_t *block, size_t block_len);
+uint32_t gift64_decrypt_by_key(const uint8_t *key, size_t key_len, uint8_t *block, size_t block_len);
+
+/* The same by the plain engine, on 16 nibbles. The two are proved to give the same number and bytes, whatever is lent. Refusals: 1, 2. */
+uint32_t gift64_plain_encrypt_by_key(const uint8_t *key, size_t key_len, uint8_t *block, size_t block_len);
+uint32_t gift64_plain_decrypt_by_key(const uint8_t *key, size_t key_len, uint8_t *block, size_t block_len);
+
+/* Many blocks by a key, from one buffer to another; the key is expanded once. Length 0 is done and writes nothing. Refusals: 1, 2, 3. */
+uint32_t gift64_encrypt_blocks(const uint8_t *key, size_t key_len, const uint8_t *input, size_t input_len,
+                               uint8_t *output, size_t output_len);
+uint32_t gift64_decrypt_blocks(const uint8_t *key, size_t key_len, const uint8_t *input, size_t input_len,
+                               uint8_t *output, size_t output_len);
 
 /* The layout above, held to the compiler's where it can say so. */
 #if defined(__cplusplus) && __cplusplus >= 201103L

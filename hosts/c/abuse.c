@@ -1,5 +1,5 @@
 /* A random walk of 100,000 calls over everything that the library exports, with good and bad arguments and with guests that steal, and after it every bit
- * of an idle record set alone, then one of CMAC and one of streams. Each call is held to model.h: the number given back, every byte, word and record lent, and every byte round them, so that a record is looked
+ * of an idle record set alone, then one of CMAC, one of streams and one of GIFT-64. Each call is held to model.h: the number given back, every byte, word and record lent, and every byte round them, so that a record is looked
  * at byte by byte after each take and close. The same calls on each run. Exit status 1 if anything differs. */
 #include <stdio.h>
 #include <string.h>
@@ -9,6 +9,7 @@
 #define CALLS 100000
 #define MAC_CALLS 20000 /* of CMAC, after those */
 #define STREAM_CALLS 20000 /* of streams, after those */
+#define GIFT64_CALLS 20000 /* of GIFT-64, after those */
 #define RECORDS (LANES + 2) /* of which the first are a bench */
 
 /* The header's names are document 01's numbers. */
@@ -19,6 +20,7 @@ _Static_assert(GIFT_NOT_THE_OWNER == 11 && GIFT_TOO_FEW_COUNTERS == 12, "11, 12"
 _Static_assert(GIFT_IDLE == 0 && GIFT_RUNNING == 1 && GIFT_FINISHED == 2 && GIFT_ENCRYPT == 0 && GIFT_DECRYPT == 1, "phases and directions");
 _Static_assert(GIFT_BLOCK_SIZE == 16 && GIFT_KEY_SIZE == 16 && GIFT_WORDS == 80 && GIFT_LANES == LANES && GIFT_FRESH_LAST == LANES - 1, "sizes");
 _Static_assert(GIFT_MOST_TURNS == 1024 && GIFT_TURNS_OF_A_LANE == 8, "turns");
+_Static_assert(GIFT64_BLOCK_SIZE == 8, "GIFT-64");
 
 /* ---- numbers at random: splitmix64 ---- */
 
@@ -123,7 +125,8 @@ static uint8_t *expected(room *r)
 enum {
     ENCRYPT_BY_KEY, DECRYPT_BY_KEY, ENCRYPT_BY_WORDS, DECRYPT_BY_WORDS, EXPAND, ENCRYPT_BLOCKS,
     DECRYPT_BLOCKS, OPEN_LANE, TURN, TAKE, CLOSE, MAC, MAC_CHECK, MAC_START, MAC_PIECE, MAC_TAG,
-    STREAM_START, STREAM_PIECE, PLAIN_ENCRYPT, PLAIN_DECRYPT, KINDS
+    STREAM_START, STREAM_PIECE, ENCRYPT_64, DECRYPT_64, ENCRYPT_BLOCKS_64, DECRYPT_BLOCKS_64,
+    PLAIN_ENCRYPT, PLAIN_DECRYPT, PLAIN_ENCRYPT_64, PLAIN_DECRYPT_64, KINDS
 };
 
 static const char *const names[KINDS] = {
@@ -131,7 +134,8 @@ static const char *const names[KINDS] = {
     "gift_decrypt_blocks", "gift_open_lane", "gift_turn", "gift_take", "gift_close",
     "gift_mac", "gift_mac_check", "gift_mac_start", "gift_mac_piece", "gift_mac_tag",
     "gift_stream_start", "gift_stream_piece",
-    "gift_plain_encrypt_by_key", "gift_plain_decrypt_by_key",
+    "gift64_encrypt_by_key", "gift64_decrypt_by_key", "gift64_encrypt_blocks", "gift64_decrypt_blocks",
+    "gift_plain_encrypt_by_key", "gift_plain_decrypt_by_key", "gift64_plain_encrypt_by_key", "gift64_plain_decrypt_by_key",
 };
 
 static unsigned calls, differences, given[KINDS][13];
@@ -672,6 +676,67 @@ static void on_a_stream(void)
         stream.unused = right;
 }
 
+/* ---- GIFT-64 ---- */
+
+/* By either engine, each on the same memory. */
+static void by_key_64(unsigned direction)
+{
+    static uint8_t before[ROOM];
+    uint32_t number, must;
+    lend(&keys, "key", length(16), 1);
+    lend(&blocks, "block", length(8), 1);
+    memcpy(before, blocks.memory, blocks.all);
+    must = key_number_64(keys.length, blocks.length);
+    if (must == 0)
+        model_64(direction, expected(&keys), expected(&blocks), expected(&blocks));
+    number = (direction == 0 ? gift64_encrypt_by_key : gift64_decrypt_by_key)(part(&keys), keys.length, part(&blocks), blocks.length);
+    hold(ENCRYPT_64 + direction, number, must);
+
+    memcpy(blocks.memory, before, blocks.all);
+    lent[lent_count++] = &keys;
+    lent[lent_count++] = &blocks;
+    number = (direction == 0 ? gift64_plain_encrypt_by_key : gift64_plain_decrypt_by_key)(part(&keys), keys.length, part(&blocks), blocks.length);
+    hold(PLAIN_ENCRYPT_64 + direction, number, must);
+}
+
+static void many_64(unsigned direction)
+{
+    uint32_t number, must;
+    lend(&keys, "key", length(16), 1);
+    lend(&blocks, "input", length(8 * below(12)), 1);
+    lend(&outputs, "output", length(blocks.length), 1);
+    must = many_number_64(keys.length, blocks.length, outputs.length);
+    if (must == 0)
+        for (size_t at = 0; at < blocks.length; at += 8)
+            model_64(direction, expected(&keys), expected(&blocks) + at, expected(&outputs) + at);
+    number = (direction == 0 ? gift64_encrypt_blocks : gift64_decrypt_blocks)(part(&keys), keys.length, part(&blocks), blocks.length, part(&outputs),
+                                                                              outputs.length);
+    hold(ENCRYPT_BLOCKS_64 + direction, number, must);
+}
+
+/* The designers' vectors: key, block, and what it is encrypted to. */
+static unsigned known_64(void)
+{
+    static const uint8_t known[][32] = {
+        {0xfe, 0xdc, 0xba, 0x98, 0x76, 0x54, 0x32, 0x10, 0xfe, 0xdc, 0xba, 0x98, 0x76, 0x54, 0x32, 0x10,
+         0xfe, 0xdc, 0xba, 0x98, 0x76, 0x54, 0x32, 0x10, 0xc1, 0xb7, 0x1f, 0x66, 0x16, 0x0f, 0xf5, 0x87},
+        {0, 0, 0, 0, 0, 0, 0, 0, 0, 0, 0, 0, 0, 0, 0, 0,
+         0, 0, 0, 0, 0, 0, 0, 0, 0xf6, 0x2b, 0xc3, 0xef, 0x34, 0xf7, 0x75, 0xac},
+        {0xbd, 0x91, 0x73, 0x1e, 0xb6, 0xbc, 0x27, 0x13, 0xa1, 0xf9, 0xf6, 0xff, 0xc7, 0x50, 0x44, 0xe7,
+         0xc4, 0x50, 0xc7, 0x72, 0x7a, 0x9b, 0x8a, 0x7d, 0xe3, 0x27, 0x28, 0x85, 0xfa, 0x94, 0xba, 0x8b},
+    };
+    const unsigned count = sizeof known / sizeof *known;
+    for (unsigned n = 0; n < count; n++) {
+        uint8_t block[8];
+        memcpy(block, known[n] + 16, 8);
+        if ((gift64_encrypt_by_key(known[n], 16, block, 8) != 0 || memcmp(block, known[n] + 24, 8) != 0) && differs(ENCRYPT_64))
+            printf("vector %u is not the designers'\n", n);
+        if ((gift64_decrypt_by_key(known[n], 16, block, 8) != 0 || memcmp(block, known[n] + 16, 8) != 0) && differs(DECRYPT_64))
+            printf("vector %u is not the designers'\n", n);
+    }
+    return count;
+}
+
 int main(void)
 {
     if (gift_host_edition() != GIFT_HOST_EDITION) {
@@ -709,6 +774,15 @@ int main(void)
             on_a_stream();
     }
 
+    for (unsigned end = calls + GIFT64_CALLS; calls < end;) {
+        uint32_t kind = below(6);
+        mischief = below(8) < 5 ? 0 : below(4) ? 2 : 5;
+        if (kind < 4)
+            by_key_64(kind % 2);
+        else
+            many_64(kind % 2);
+    }
+
     printf("%-22s", "number given back:");
     for (unsigned number = 0; number <= 12; number++)
         printf("%7u", number);
@@ -725,6 +799,8 @@ int main(void)
     printf("%u calls met an idle record with one bit set, each bit of each lane's record before each of the four calls\n", one_bits);
     printf("%u of the calls by a key were made by the plain engine, too, on the same memory\n",
            given[PLAIN_ENCRYPT][0] + given[PLAIN_ENCRYPT][1] + given[PLAIN_ENCRYPT][2] + given[PLAIN_DECRYPT][0] + given[PLAIN_DECRYPT][1] + given[PLAIN_DECRYPT][2]);
+    printf("%u of GIFT-64's, too; %u of its designers' vectors, both ways\n",
+           given[PLAIN_ENCRYPT_64][0] + given[PLAIN_ENCRYPT_64][1] + given[PLAIN_ENCRYPT_64][2] + given[PLAIN_DECRYPT_64][0] + given[PLAIN_DECRYPT_64][1] + given[PLAIN_DECRYPT_64][2], known_64());
     printf("%u checks said yes; %u tags of states were those of the whole message; %u stored tags\n", yeses, whole_tags, known_tags());
     printf("%u streams were the host's; %u pieces were served by one that is spent\n", forged, spent_served);
     printf("%u calls, %u differences\n", calls, differences);

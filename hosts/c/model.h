@@ -1,4 +1,4 @@
-/* Document 01 as plain C: the published cipher, the bench, and the number that each call gives back. What abuse.c holds the library to.
+/* Document 01 as plain C: the published ciphers, the bench, and the number that each call gives back. What abuse.c holds the library to.
  * It shares nothing with the library but the form of a lane record, and writes document 01's numbers as numbers. */
 #include <stddef.h>
 #include <stdint.h>
@@ -469,4 +469,78 @@ static uint32_t stream_piece_number(const gift_stream *s, size_t input_len, size
 {
     uint64_t left = s->spent ? 0 : ((uint64_t)1 << 32) - s->counter;
     return s->unused > 15 ? 10 : output_len != input_len ? 3 : input_len > s->unused + 16 * left ? 12 : 0;
+}
+
+/* ---- GIFT-64, on the first 64 of the bits: U is k1 and V is k0, the two halves of GIFT-128's V ---- */
+
+static unsigned P64(unsigned i)
+{
+    return 4 * (i / 16) + 16 * ((3 * ((i % 16) / 4) + i % 4) % 4) + i % 4;
+}
+
+static void add_key_and_constant_64(bits *x, pair k, unsigned constant)
+{
+    for (unsigned i = 0; i < 16; i++) {
+        x->b[4 * i + 1] ^= (uint8_t)(k.v >> (16 + i) & 1);
+        x->b[4 * i] ^= (uint8_t)(k.v >> i & 1);
+    }
+    x->b[63] ^= 1;
+    for (unsigned i = 0; i < 6; i++)
+        x->b[4 * i + 3] ^= (uint8_t)(constant >> i & 1);
+}
+
+static void do_round_64(bits *x, pair k, unsigned constant)
+{
+    bits y;
+    for (unsigned i = 0; i < 16; i++)
+        set_nibble(x, i, sbox[nibble(x, i)]);
+    for (unsigned i = 0; i < 64; i++)
+        y.b[P64(i)] = x->b[i];
+    add_key_and_constant_64(&y, k, constant);
+    *x = y;
+}
+
+static void undo_round_64(bits *x, pair k, unsigned constant)
+{
+    bits y;
+    add_key_and_constant_64(x, k, constant);
+    for (unsigned i = 0; i < 64; i++)
+        y.b[i] = x->b[P64(i)];
+    for (unsigned i = 0; i < 16; i++) {
+        unsigned n = 0;
+        while (sbox[n] != nibble(&y, i))
+            n++;
+        set_nibble(&y, i, n);
+    }
+    *x = y;
+}
+
+static void model_64(unsigned direction, const uint8_t *key, const uint8_t *from, uint8_t *to)
+{
+    pair pairs[40];
+    bits x;
+    pairs_of_key(key, pairs);
+    for (unsigned i = 0; i < 64; i++)
+        x.b[i] = from[7 - i / 8] >> (i % 8) & 1;
+    for (unsigned r = 0; r < 28; r++) {
+        if (direction == 0)
+            do_round_64(&x, pairs[r], constant_of(r));
+        else
+            undo_round_64(&x, pairs[27 - r], constant_of(27 - r));
+    }
+    for (unsigned n = 0; n < 8; n++) {
+        to[7 - n] = 0;
+        for (unsigned i = 0; i < 8; i++)
+            to[7 - n] |= (uint8_t)(x.b[8 * n + i] << i);
+    }
+}
+
+static uint32_t key_number_64(size_t key_len, size_t block_len)
+{
+    return key_len != 16 ? 1 : block_len != 8 ? 2 : 0;
+}
+
+static uint32_t many_number_64(size_t key_len, size_t input_len, size_t output_len)
+{
+    return key_len != 16 ? 1 : input_len % 8 != 0 ? 2 : output_len != input_len ? 3 : 0;
 }

@@ -1,14 +1,15 @@
 -- What each call promises: its number, by its refusals in document 01's order, and what then stands in the buffer that was lent to it.
-use mathlib.Core.List.{List, [], _++_}
-use Prim.Native.Nat.{ℕ, zero, suc, _/_, _%_}
+use mathlib.Core.List.{List}
+use Prim.Native.Nat.{ℕ, _%_}
 use lib.Dec.{eqb}
-use lib.ListN.{length, take, drop, replicate}
+use lib.ListN.{length, take, replicate}
 use Rattle.answers.specs.Numbers.{DONE, BAD_KEY_LENGTH, BAD_BLOCK_LENGTH, BAD_OUTPUT_LENGTH, BAD_WORD_COUNT}
 use Rattle.answers.specs.Order.{unless, ifDone}
 use Rattle.answers.specs.Outcome.{Gives}
 use Rattle.published.specs.Bytes.{readBlock, writeBlock}
 use Rattle.published.specs.Gift128.{pairsOf, rounds128, unrounds128, encrypted, decrypted}
 use Rattle.published.specs.Calls.{blockCode, keyCode}
+use Rattle.published.specs.Blocks.{allOf}
 use Rattle.round_words.specs.Arranged.{pairsFrom}
 use Rattle.key_schedule.specs.Expand.{expanded}
 
@@ -43,13 +44,9 @@ decryptedBy ws block = writeBlock (unrounds128 (pairsFrom 0 ws) 0 (readBlock blo
 unfoldable pub afterOne : List ℕ → List ℕ → List ℕ
 afterOne key block = writeBlock (rounds128 (take 1 (pairsOf key)) 0 (readBlock block))
 
--- n blocks, block i of the answer from block i of the input
-unfoldable pub eachBlock : (List ℕ → List ℕ) → ℕ → List ℕ → List ℕ
-eachBlock f zero input = []
-eachBlock f (suc n) input = f (take 16 input) ++ eachBlock f n (drop 16 input)
-
-unfoldable pub allBlocks : (List ℕ → List ℕ) → List ℕ → List ℕ
-allBlocks f input = eachBlock f (length input / 16) input
+-- all the blocks of sixteen bytes, block i of the answer from block i of the input
+abbrev pub allBlocks : (List ℕ → List ℕ) → List ℕ → List ℕ
+allBlocks = allOf 16
 
 -- ---- the promises: the number, and what the lent buffer holds at exit
 

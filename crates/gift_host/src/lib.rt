@@ -9,6 +9,7 @@ use lane::Lane;
 ghost use mathlib.Core.Path.{_≡_};
 ghost use denote.Ref.{now};
 ghost use Rattle.published.specs.Calls.{EncryptsByKey, DecryptsByKey};
+ghost use Rattle.published.specs.Calls64.{EncryptsByKey64, DecryptsByKey64, EncryptsBlocks64, DecryptsBlocks64};
 ghost use Rattle.key_schedule.specs.Expand.{Expands};
 ghost use Rattle.gift128.specs.Calls.{EncryptsByWords, DecryptsByWords, EncryptsBlocks, DecryptsBlocks};
 ghost use Rattle.counter.specs.Calls.{Starts as StartsStream, Feeds as FeedsStream};
@@ -200,4 +201,49 @@ pub extern "C" fn gift_stream_piece(
     let fed = counter::piece(*stream, input, output);
     *stream = fed.stream;
     fed.code
+}
+
+// GIFT-64. One block by a key, in place. Refusals: 1, 2.
+#[no_mangle]
+pub extern "C" fn gift64_encrypt_by_key(key: &[u8], block: &mut [u8]) -> u32
+    ensures { λ r. ⌜ EncryptsByKey64 (now (key .entry)) (now (block .entry)) r (now (block .exit)) ⌝ }
+{
+    gift64::encrypt_by_key(key, block)
+}
+
+#[no_mangle]
+pub extern "C" fn gift64_decrypt_by_key(key: &[u8], block: &mut [u8]) -> u32
+    ensures { λ r. ⌜ DecryptsByKey64 (now (key .entry)) (now (block .entry)) r (now (block .exit)) ⌝ }
+{
+    gift64::decrypt_by_key(key, block)
+}
+
+// The same by the plain engine. Refusals: 1, 2.
+#[no_mangle]
+pub extern "C" fn gift64_plain_encrypt_by_key(key: &[u8], block: &mut [u8]) -> u32
+    ensures { λ r. ⌜ EncryptsByKey64 (now (key .entry)) (now (block .entry)) r (now (block .exit)) ⌝ }
+{
+    plain::encrypt_64_by_key(key, block)
+}
+
+#[no_mangle]
+pub extern "C" fn gift64_plain_decrypt_by_key(key: &[u8], block: &mut [u8]) -> u32
+    ensures { λ r. ⌜ DecryptsByKey64 (now (key .entry)) (now (block .entry)) r (now (block .exit)) ⌝ }
+{
+    plain::decrypt_64_by_key(key, block)
+}
+
+// Many blocks by a key, from one buffer to another. Refusals: 1, 2, 3.
+#[no_mangle]
+pub extern "C" fn gift64_encrypt_blocks(key: &[u8], input: &[u8], output: &mut [u8]) -> u32
+    ensures { λ r. ⌜ EncryptsBlocks64 (now (key .entry)) (now (input .entry)) (now (output .entry)) r (now (output .exit)) ⌝ }
+{
+    gift64::encrypt_blocks(key, input, output)
+}
+
+#[no_mangle]
+pub extern "C" fn gift64_decrypt_blocks(key: &[u8], input: &[u8], output: &mut [u8]) -> u32
+    ensures { λ r. ⌜ DecryptsBlocks64 (now (key .entry)) (now (input .entry)) (now (output .entry)) r (now (output .exit)) ⌝ }
+{
+    gift64::decrypt_blocks(key, input, output)
 }

@@ -21,7 +21,7 @@ use Rattle.key_schedule.specs.InnerTens.{fiveRounds, fiveLater, tenLater
 use Rattle.key_schedule.proofs.Updates.{ror16-lt, updated-lt}
 use Rattle.key_schedule.proofs.TenWords.{same-four, same-ten}
 
-word-lt : (key i : ℕ) → digit 65536 key i < 2 ^ 16
+pub word-lt : (key i : ℕ) → digit 65536 key i < 2 ^ 16
 word-lt key i = digit-lt 65536 (lit< tt) key i
 
 -- ---- the words of an updated key state
@@ -60,10 +60,10 @@ unfolding updated digit
 updated-words a b h l = ap₂ (λ (x y : ℕ). ror16 2 x ‖ ror16 12 y) (omega arith) (omega arith)
 
 -- two rounds on, V is the U before and U the V before, updated
-abbrev twoOn : Pair → Pair
+abbrev pub twoOn : Pair → Pair
 twoOn p = record { u = updated (p .v); v = p .u }
 
-two-on : (key : ℕ) → pairOf (update (update key)) ≡ twoOn (pairOf key)
+pub two-on : (key : ℕ) → pairOf (update (update key)) ≡ twoOn (pairOf key)
 unfolding pairOf
 two-on key =
     one-on (update key)

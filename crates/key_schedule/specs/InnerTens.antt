@@ -1,8 +1,10 @@
 -- Inner: the ten words of five rounds: as the first two of those rounds give them, and as the ten words that stand twenty before do.
 -- Two rounds after a round, V is its U and U is its V updated; ten rounds after it, V is its U updated twice and U is its V updated three times.
+use mathlib.Core.Bool.{cond}
 use mathlib.Core.List.{List, [], _∷_, _++_}
 use Prim.Native.Nat.{ℕ, zero, suc}
-use lib.ListN.{getD, take, drop}
+use lib.Dec.{eqb}
+use lib.ListN.{length, getD, take, drop}
 use Rattle.published.specs.Bytes.{fromBytes}
 use Rattle.round_words.specs.Arranged.{arranged}
 use Rattle.key_schedule.specs.declared.Four.{Four}
@@ -18,6 +20,10 @@ firstWords key =
       v1 = fromBytes (take 4 (drop 8 key));
       u1 = fromBytes (take 4 (drop 0 key));
     }
+
+-- the same of any key: one of another length has four zero words
+unfoldable pub keyWords : List ℕ → Four
+keyWords key = cond (eqb (length key) 16) (firstWords key) (record { v0 = 0; u0 = 0; v1 = 0; u1 = 0 })
 
 -- the words of five rounds, each kept in its round's arrangement, from V and U of the first two
 unfoldable pub fiveRounds : Four → Ten

@@ -12,7 +12,7 @@ ghost use Rattle.primitives.specs.Words.{permuted};
 ghost use Rattle.round_words.specs.Arranged.{arranged};
 ghost use Rattle.key_schedule.specs.Expand.{expandCode, expanded, Expands};
 ghost use Rattle.key_schedule.specs.InnerUpdate.{updated, later, tripled};
-ghost use Rattle.key_schedule.specs.InnerTens.{firstWords, fiveRounds, fiveLater, tenLater, wordsOf, tenOf, grown};
+ghost use Rattle.key_schedule.specs.InnerTens.{firstWords, keyWords, fiveRounds, fiveLater, tenLater, wordsOf, tenOf, grown};
 
 fn rearrange_rkey_0(x: u32) -> u32
     ensures { λ r. ⌜ r ≡ arranged 1 x ⌝ }
@@ -50,7 +50,8 @@ fn rearrange_rkey_3(x: u32) -> u32
     swapmovesingle(c, 0x000000ff, 24)
 }
 
-fn key_update(x: u32) -> u32
+// (k1 rotated right 2) ‖ (k0 rotated right 12).
+pub fn key_update(x: u32) -> u32
     ensures { λ r. ⌜ r ≡ updated x ⌝ }
 {
     ((x >> 12) & 0x0000000f)
@@ -136,11 +137,11 @@ fn key_triple_update_4(x: u32) -> u32
 
 // V and U of two rounds.
 #[repr(C)]
-struct Four {
-    v0: u32,
-    u0: u32,
-    v1: u32,
-    u1: u32,
+pub struct Four {
+    pub v0: u32,
+    pub u0: u32,
+    pub v1: u32,
+    pub u1: u32,
 }
 
 // V and U of five rounds.
@@ -176,6 +177,21 @@ fn first_words(key: &[u8]) -> Four
         v1: u32big_of(&key[8..12]),
         u1: u32big_of(&key[0..4]),
     }
+}
+
+// The four words of a key; of a key of another length, four zero words.
+pub fn key_words(key: &[u8]) -> Four
+    ensures { λ r. ⌜ r ≡ keyWords (now (key .entry)) ⌝ }
+{
+    if key.len() != 16 {
+        return Four {
+            v0: 0,
+            u0: 0,
+            v1: 0,
+            u1: 0,
+        };
+    }
+    first_words(key)
 }
 
 // As the Rust's first two loops do: two rounds further V is U and U is V updated; then all but the fifth round's words are rearranged.

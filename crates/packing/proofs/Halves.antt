@@ -57,11 +57,11 @@ scattered-half x h l =
 -- ---- bytes
 
 -- a fact of every list of n elements, from the lists written out
-abbrev Each : ℕ → (List ℕ → Type 0) → Type 0
+abbrev pub Each : ℕ → (List ℕ → Type 0) → Type 0
 Each zero P = P []
 Each (suc n) P = (a : ℕ) → Each n (λ l. P (a ∷ l))
 
-each : (n : ℕ) (P : List ℕ → Type 0) → Each n P → (l : List ℕ) → length l ≡ n → P l
+pub each : (n : ℕ) (P : List ℕ → Type 0) → Each n P → (l : List ℕ) → length l ≡ n → P l
 each zero P p [] e = p
 each zero P p (a ∷ l) e = absurd (omega arith)
 each (suc n) P p [] e = absurd (omega arith)

@@ -2,3 +2,4 @@
 pub mod Steps
 pub mod Halves
 pub mod Inverse
+pub mod Small

@@ -8,7 +8,7 @@ ghost use Prim.Native.Nat.{_+_, _<_};
 ghost use lib.ListN.{length};
 ghost use Rattle.bits.specs.Digit.{digit};
 ghost use Rattle.published.specs.Bytes.{toBytes};
-ghost use Rattle.packing.specs.Packing.{packed, unpacked};
+ghost use Rattle.packing.specs.Packing.{packed, unpacked, packed64, unpacked64};
 ghost use Rattle.packing.specs.Inner.{fourAt, halfAt, copied, reordered, crossed, rising, gatheredFrom, scatteredFrom, wordFrom, halfFrom};
 
 // The place of a bit in a half has six binary figures. This exchanges figures k and k + 2 of every place: the mask has the places where figure k is 1 and figure k + 2 is 0,
@@ -141,5 +141,38 @@ pub fn unpacking(state: State, output: &mut [u8])
     if output.len() == 16 {
         put(output, 0, bytes(scatter(half(state, 1))));
         put(output, 8, bytes(scatter(half(state, 0))));
+    }
+}
+
+// ---- GIFT-64: a block is one half, and word j its piece j
+
+// Eight bytes are packed, into the low halves of the words; of any other number of bytes come four zero words.
+pub fn packing_64(input: &[u8]) -> State
+    ensures { λ r. ⌜ r ≡ packed64 (now (input .entry)) ⌝ }
+{
+    if input.len() == 8 {
+        let x = gather(half_at(input, 0));
+        State {
+            s0: piece(x, 0) as u32,
+            s1: piece(x, 1) as u32,
+            s2: piece(x, 2) as u32,
+            s3: piece(x, 3) as u32,
+        }
+    } else {
+        State {
+            s0: 0,
+            s1: 0,
+            s2: 0,
+            s3: 0,
+        }
+    }
+}
+
+// Eight bytes are written; a buffer of another length stays as it is.
+pub fn unpacking_64(state: State, output: &mut [u8])
+    ensures { λ r. ⌜ now (output .exit) ≡ unpacked64 state (now (output .entry)) ⌝ }
+{
+    if output.len() == 8 {
+        put(output, 0, bytes(scatter(half(state, 0))));
     }
 }

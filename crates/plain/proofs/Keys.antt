@@ -1,4 +1,4 @@
--- The key state's eight words are the digits of the number that they make: updated, rotated, and the pair U, V of GIFT-128.
+-- The key state's eight words are the digits of the number that they make: updated, rotated, and the pair U, V of each member.
 use mathlib.Core.Path.{_≡_, refl, sym, ap, ap₂, _∙_}
 use mathlib.Core.Bool.{Bool, true, false, _&&_, _||_}
 use mathlib.Core.List.{List, [], _∷_}
@@ -16,6 +16,7 @@ use Rattle.bits.proofs.Digits.{digit-number}
 use Rattle.bits.proofs.Bits.{bit-ext, bit-ofBits, bit-or, bit-out, bit-shl-cut, bit-shr, ofBits-lt}
 use Rattle.published.specs.Key.{_‖_, ror16, update}
 use Rattle.published.specs.Gift128.{pairOf}
+use Rattle.published.specs.Gift64.{pairOf64}
 use Rattle.plain.specs.Inner.{keyOf}
 
 in-words : (k0 k1 k2 k3 k4 k5 k6 k7 : ℕ) → keyOf (k0 ∷ k1 ∷ k2 ∷ k3 ∷ k4 ∷ k5 ∷ k6 ∷ k7 ∷ []) ≡ k7 ‖ k6 ‖ k5 ‖ k4 ‖ k3 ‖ k2 ‖ k1 ‖ k0
@@ -39,6 +40,14 @@ module _ (k : List ℕ) (words : (i : ℕ) → getD k i 0 < 65536) where
   pub v-is : getD k 1 0 * 65536 + getD k 0 0 ≡ pairOf (keyOf k) .v
   unfolding pairOf
   v-is = rw (word 1 (lit< tt), word 0 (lit< tt))
+
+  pub small-u-is : getD k 1 0 ≡ pairOf64 (keyOf k) .u
+  unfolding pairOf64
+  small-u-is = sym (word 1 (lit< tt))
+
+  pub small-v-is : getD k 0 0 ≡ pairOf64 (keyOf k) .v
+  unfolding pairOf64
+  small-v-is = sym (word 0 (lit< tt))
 
 -- ---- a word rotated
 

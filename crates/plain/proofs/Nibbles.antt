@@ -100,10 +100,13 @@ again ns x e ok =
       most = rw same (ok .most);
     }
 
+pub nibbles-of : (n x : ℕ) → n % 4 ≡ 0 → 8 ≤ n → n ≤ 32 → {m : List ℕ} → m ≡ nibblesOf n x → Nibbles m
+nibbles-of n x fours least most e =
+    let long : length (nibblesOf n x) ≡ n = length-nibblesOf n x in
+    rw e (record { small = small-nibblesOf n x; fours = rw long fours; least = rw long least; most = rw long most })
+
 pub nibbles-32 : (x : ℕ) {m : List ℕ} → m ≡ nibblesOf 32 x → Nibbles m
-nibbles-32 x e =
-    let long : length (nibblesOf 32 x) ≡ 32 = length-nibblesOf 32 x in
-    rw e (record { small = small-nibblesOf 32 x; fours = rw long; least = rw long (lit≤ tt); most = rw long (lit≤ tt) })
+nibbles-32 x e = nibbles-of 32 x refl (lit≤ tt) (lit≤ tt) e
 
 -- a step after a step, where the first stays within the width
 pub by-by : (f g : ℕ → ℕ → ℕ) (ns : List ℕ) → g (4 * length ns) (stateOf ns) < 2 ^ (4 * length ns) → by f (by g ns) ≡ by (λ n s. f n (g n s)) ns

@@ -1,18 +1,22 @@
 -- The steps of a round one after the other, forward and back; rounds one after the other, and a block taken through them.
-use mathlib.Core.Path.{_≡_, sym, ap, ap₂, _∙_}
+use mathlib.Core.Path.{_≡_, sym, ap, _∙_}
+use mathlib.Core.Bool.{Bool, true, false}
 use mathlib.Core.List.{List}
 use Prim.Native.Nat.{ℕ, suc, _+_, _-_, _*_, _^_, _≤_, _<_}
 use native.Mathlib.Numerals.{add-one}
 use native.Mathlib.Omega.{arith}
+use lib.Dec.{eqb, lit<, lit≤}
 use lib.ListN.{length}
+use Rattle.bits.proofs.Digits.{pow-mul}
+use Rattle.bits.proofs.Truth.{cond-either}
 use Rattle.published.specs.Bytes.{fromBytes, toBytes, Bytes}
 use Rattle.published.specs.Rounds.{Pair, entry, subCells, permBits, xored, keyBit, constantBit, step, constant, round, rounds, unround, unrounds}
 use Rattle.published.specs.Inner.{unentry, unPermBits, stepsBack}
 use Rattle.published.specs.Key.{update, pairs}
-use Rattle.published.proofs.Steps.{entry-lt, subCells-lt, permBits-lt, unPermBits-lt, xored-lt}
-use Rattle.published.proofs.Undone.{unround-is}
-use Rattle.published.proofs.Gift128.{block-lt}
-use Rattle.plain.specs.Inner.{stateOf, nibblesOf, by, Nibbles}
+use Rattle.published.proofs.Reading.{fromBytes-lt}
+use Rattle.published.proofs.Steps.{width, entry-lt, subCells-lt, permBits-lt, unPermBits-lt, xored-lt}
+use Rattle.published.proofs.Undone.{unround-is, rounds-lt, unrounds-lt}
+use Rattle.plain.specs.Inner.{stateOf, nibblesOf, by, Nibbles, countOf, placeOf, uvOf, roundsBy}
 use Rattle.plain.proofs.Nibbles.{stateOf-lt, stateOf-nibblesOf, nibblesOf-stateOf, by-by, width-of}
 
 -- ---- one round
@@ -81,21 +85,33 @@ module _ (n j : ℕ) (uv : ℕ → Pair) (all r key x : ℕ) where
     unfolding unrounds pairs
     round-last = rw (paired, stepped, updated, left, add-one r)
 
--- ---- the 32 nibbles of GIFT-128
+-- ---- nibbles, of either member
 
-pub state-after : (step : ℕ → ℕ → ℕ) (ns : List ℕ) {now : List ℕ} → length ns ≡ 32 → step 128 (stateOf ns) < 2 ^ 128 → now ≡ by step ns → stateOf now ≡ step 128 (stateOf ns)
-state-after step ns len h e =
-    ap stateOf (e ∙ ap (λ (l : ℕ). nibblesOf l (step (4 * l) (stateOf ns))) len) ∙ stateOf-nibblesOf 32 (step 128 (stateOf ns)) h
+pub state-after : (step : ℕ → ℕ → ℕ) (ns : List ℕ) {now : List ℕ} → step (4 * length ns) (stateOf ns) < 2 ^ (4 * length ns) → now ≡ by step ns → stateOf now ≡ step (4 * length ns) (stateOf ns)
+state-after step ns h e = ap stateOf e ∙ stateOf-nibblesOf (length ns) (step (4 * length ns) (stateOf ns)) h
 
-pub nibbles-of-state : (ns : List ℕ) (x : ℕ) → Nibbles ns → length ns ≡ 32 → stateOf ns ≡ x → ns ≡ nibblesOf 32 x
-nibbles-of-state ns x ok len e = nibblesOf-stateOf ns (ok .small) ∙ ap₂ nibblesOf len e
+pub nibbles-of-state : (ns : List ℕ) (x : ℕ) → Nibbles ns → stateOf ns ≡ x → ns ≡ nibblesOf (length ns) x
+nibbles-of-state ns x ok e = nibblesOf-stateOf ns (ok .small) ∙ ap (nibblesOf (length ns)) e
+
+pub count-most : (n : ℕ) → countOf n ≤ 40
+count-most n = cond-either (λ (x : ℕ). x ≤ 40) (eqb n 16) 28 40 (λ e. lit≤ tt) (λ e. lit≤ tt)
+
+pub place-lt : (n : ℕ) → placeOf n < 3
+place-lt n = cond-either (λ (x : ℕ). x < 3) (eqb n 16) 0 1 (λ e. lit< tt) (λ e. lit< tt)
+
+-- rounds done or undone stay within the width
+pub within : (back : Bool) (m n key x : ℕ) → 4 * n ≡ 16 * m → x < 2 ^ (4 * n) → roundsBy back n key x < 2 ^ (4 * n)
+within false m n key x e h = rounds-lt (4 * n) (placeOf n) (rw e (width m)) (pairs (uvOf n) (countOf n - 0) key) 0 x h
+within true m n key x e h = unrounds-lt (4 * n) (placeOf n) (rw e (width m)) (pairs (uvOf n) (countOf n - 0) key) 0 x h
 
 -- a block read, taken through rounds and written
-pub block-made : (f : ℕ → ℕ) → ((x : ℕ) → x < 2 ^ 128 → f x < 2 ^ 128) → (block : List ℕ) {a b e : List ℕ} → length block ≡ 16 → Bytes block
-    → a ≡ nibblesOf 32 (fromBytes block) → b ≡ nibblesOf 32 (f (stateOf a)) → e ≡ toBytes (length block) (stateOf b) → e ≡ toBytes 16 (f (fromBytes block))
-block-made f f-lt block len bytes e1 e2 e3 =
-    let x-lt : fromBytes block < 2 ^ 128 = block-lt block len bytes in
+pub block-made : (f : ℕ → ℕ) (block : List ℕ) {a b e : List ℕ} → (fromBytes block < 2 ^ (4 * (2 * length block)) → f (fromBytes block) < 2 ^ (4 * (2 * length block))) → Bytes block
+    → a ≡ nibblesOf (2 * length block) (fromBytes block) → b ≡ nibblesOf (2 * length block) (f (stateOf a)) → e ≡ toBytes (length block) (stateOf b) → e ≡ toBytes (length block) (f (fromBytes block))
+block-made f block f-lt bytes e1 e2 e3 =
+    let n : ℕ = 2 * length block in
+    let eight : 8 * length block ≡ 4 * n = omega arith in
+    let x-lt : fromBytes block < 2 ^ (4 * n) = rw (pow-mul 2 8 (length block), eight) at (fromBytes-lt block bytes) in
     e3
-    ∙ ap₂ toBytes len
-    (ap stateOf (e2 ∙ ap (λ (s : ℕ). nibblesOf 32 (f s)) (ap stateOf e1 ∙ stateOf-nibblesOf 32 (fromBytes block) x-lt))
-    ∙ stateOf-nibblesOf 32 (f (fromBytes block)) (f-lt (fromBytes block) x-lt))
+    ∙ ap (toBytes (length block))
+    (ap stateOf (e2 ∙ ap (λ (s : ℕ). nibblesOf n (f s)) (ap stateOf e1 ∙ stateOf-nibblesOf n (fromBytes block) x-lt))
+    ∙ stateOf-nibblesOf n (f (fromBytes block)) (f-lt x-lt))

@@ -1,12 +1,15 @@
 -- Inner: a state lent as its nibbles, nibble i at place i; the number that they make, and what a step of the cipher makes of them. And a key state of eight words.
 use mathlib.Core.Path.{_≡_}
-use mathlib.Core.Bool.{Bool, _&&_}
+use mathlib.Core.Bool.{Bool, true, false, cond, _&&_}
 use mathlib.Core.List.{List, [], _∷_}
-use Prim.Native.Nat.{ℕ, zero, suc, _*_, _/_, _%_, _≤_, _<_}
+use Prim.Native.Nat.{ℕ, zero, suc, _-_, _*_, _/_, _%_, _≤_, _<_}
 use lib.Dec.{eqb}
 use lib.ListN.{length, getD}
 use Rattle.bits.specs.Digit.{digit, number}
-use Rattle.published.specs.Rounds.{Pair}
+use Rattle.published.specs.Rounds.{Pair, rounds, unrounds}
+use Rattle.published.specs.Key.{pairs}
+use Rattle.published.specs.Gift128.{pairOf}
+use Rattle.published.specs.Gift64.{pairOf64}
 
 unfoldable pub stateOf : List ℕ → ℕ
 stateOf ns = number 16 (length ns) (λ i. getD ns i 0)
@@ -37,3 +40,26 @@ keyOf k = number 65536 8 (λ i. getD k i 0)
 
 abbrev pub pair : (u v : ℕ) → Pair
 pair u v = record { u = u; v = v }
+
+-- ---- what the members differ in, by the number of nibbles: GIFT-64 has sixteen, and every other number is taken for GIFT-128
+
+abbrev pub countOf : ℕ → ℕ
+countOf n = cond (eqb n 16) 28 40
+
+abbrev pub placeOf : ℕ → ℕ
+placeOf n = cond (eqb n 16) 0 1
+
+abbrev pub uvOf : ℕ → ℕ → Pair
+uvOf n key = cond (eqb n 16) (pairOf64 key) (pairOf key)
+
+-- the rounds that follow r of them, by the key state that is there then; and the same undone
+abbrev pub roundsFrom : (nibbles key r : ℕ) → ℕ → ℕ
+roundsFrom n key r x = rounds (4 * n) (placeOf n) (pairs (uvOf n) (countOf n - r) key) r x
+
+abbrev pub unroundsFrom : (nibbles key r : ℕ) → ℕ → ℕ
+unroundsFrom n key r x = unrounds (4 * n) (placeOf n) (pairs (uvOf n) (countOf n - r) key) r x
+
+-- all of them, by whether they go back
+abbrev pub roundsBy : Bool → (nibbles key : ℕ) → ℕ → ℕ
+roundsBy false n key x = roundsFrom n key 0 x
+roundsBy true n key x = unroundsFrom n key 0 x

@@ -1,4 +1,4 @@
-// The plain engine: GIFT-128 as document 01 writes it, to be read beside it. Nothing of the fixsliced engine is used.
+// The plain engine: GIFT as documents 01 and 02 write it, to be read beside them. Nothing of the sliced engines is used.
 mod steps;
 
 use answers::BAD_BLOCK_LENGTH;
@@ -9,44 +9,63 @@ use steps::step_constant;
 use steps::unround;
 use steps::update_key;
 ghost use mathlib.Core.Path.{_≡_};
-ghost use Prim.Native.Nat.{_-_, _*_, _≤_};
+ghost use Prim.Native.Nat.{_*_, _%_, _≤_};
 ghost use lib.ListN.{length};
 ghost use denote.Ref.{now};
 ghost use Rattle.published.specs.Bytes.{fromBytes, toBytes};
 ghost use Rattle.published.specs.Rounds.{constant};
-ghost use Rattle.published.specs.Key.{pairs};
-ghost use Rattle.published.specs.Gift128.{pairOf, rounds128, unrounds128};
 ghost use Rattle.published.specs.Calls.{keyCode, EncryptsByKey, DecryptsByKey};
-ghost use Rattle.plain.specs.Inner.{stateOf, nibblesOf, Nibbles, keyOf};
+ghost use Rattle.published.specs.Calls64.{keyCode64, EncryptsByKey64, DecryptsByKey64};
+ghost use Rattle.plain.specs.Inner.{stateOf, nibblesOf, Nibbles, keyOf, countOf, placeOf, uvOf, roundsFrom, unroundsFrom, roundsBy};
 
-const ROUNDS: usize = 40;
+// ---- what the members differ in, by the number of nibbles: GIFT-64 has sixteen, GIFT-128 thirty-two
+
+const SMALL: usize = 16;
+
+fn rounds_of(n: usize) -> usize
+    ensures { λ r. ⌜ r ≡ countOf n ⌝ }
+{
+    if n == SMALL { 28 } else { 40 }
+}
 
 // Where V's bits go in each nibble; U's go to the next place.
-const J: usize = 1;
-
-// 3. U = k5 ‖ k4 and V = k1 ‖ k0.
-fn u_of(k: [u16; 8]) -> u32
-    ensures { λ r. ⌜ r ≡ pairOf (keyOf k) .u ⌝ }
+fn v_place(n: usize) -> usize
+    ensures { λ r. ⌜ r ≡ placeOf n ⌝ }
 {
+    if n == SMALL { 0 } else { 1 }
+}
+
+// 3. U = k5 ‖ k4 and V = k1 ‖ k0; in GIFT-64 U = k1 and V = k0.
+fn u_of(k: [u16; 8], n: usize) -> u32
+    ensures { λ r. ⌜ r ≡ uvOf n (keyOf k) .u ⌝ }
+{
+    if n == SMALL {
+        return k[1] as u32;
+    }
     k[5] as u32 * 65536 + k[4] as u32
 }
 
-fn v_of(k: [u16; 8]) -> u32
-    ensures { λ r. ⌜ r ≡ pairOf (keyOf k) .v ⌝ }
+fn v_of(k: [u16; 8], n: usize) -> u32
+    ensures { λ r. ⌜ r ≡ uvOf n (keyOf k) .v ⌝ }
 {
+    if n == SMALL {
+        return k[0] as u32;
+    }
     k[1] as u32 * 65536 + k[0] as u32
 }
+
+// ---- the rounds
 
 // After r rounds, those that follow: the constant is stepped before its use; steps 1 to 4; then 5, the key.
 fn encrypt(s: &mut [u8], k: [u16; 8], c: u8, r: usize)
     requires { ⌜ Nibbles (now s) ⌝ }
-    requires { ⌜ length (now s) ≡ 32 ⌝ }
-    requires { ⌜ (r ≤ 40) × (c ≡ constant r) ⌝ }
-    ensures { λ _. ⌜ now (s .exit) ≡ nibblesOf 32 (rounds128 (pairs pairOf (40 - r) (keyOf k)) r (stateOf (now (s .entry)))) ⌝ }
+    requires { ⌜ (r ≤ countOf (length (now s))) × (c ≡ constant r) ⌝ }
+    ensures { λ _. ⌜ now (s .exit) ≡ nibblesOf (length (now (s .entry))) (roundsFrom (length (now (s .entry))) (keyOf k) r (stateOf (now (s .entry)))) ⌝ }
 {
-    if r < ROUNDS {
+    let n = s.len();
+    if r < rounds_of(n) {
         let next = step_constant(c);
-        round(s, J, u_of(k), v_of(k), next);
+        round(s, v_place(n), u_of(k, n), v_of(k, n), next);
         encrypt(s, update_key(k), next, r + 1);
     }
 }
@@ -54,15 +73,27 @@ fn encrypt(s: &mut [u8], k: [u16; 8], c: u8, r: usize)
 // The same rounds undone, the last first.
 fn decrypt(s: &mut [u8], k: [u16; 8], c: u8, r: usize)
     requires { ⌜ Nibbles (now s) ⌝ }
-    requires { ⌜ length (now s) ≡ 32 ⌝ }
-    requires { ⌜ (r ≤ 40) × (c ≡ constant r) ⌝ }
-    ensures { λ _. ⌜ now (s .exit) ≡ nibblesOf 32 (unrounds128 (pairs pairOf (40 - r) (keyOf k)) r (stateOf (now (s .entry)))) ⌝ }
+    requires { ⌜ (r ≤ countOf (length (now s))) × (c ≡ constant r) ⌝ }
+    ensures { λ _. ⌜ now (s .exit) ≡ nibblesOf (length (now (s .entry))) (unroundsFrom (length (now (s .entry))) (keyOf k) r (stateOf (now (s .entry)))) ⌝ }
 {
-    if r < ROUNDS {
+    let n = s.len();
+    if r < rounds_of(n) {
         let next = step_constant(c);
         decrypt(s, update_key(k), next, r + 1);
-        unround(s, J, u_of(k), v_of(k), next);
+        unround(s, v_place(n), u_of(k, n), v_of(k, n), next);
     }
+}
+
+// Encrypting and decrypting differ in this alone: whether the rounds are done or undone.
+fn through(s: &mut [u8], k: [u16; 8], back: bool)
+    requires { ⌜ Nibbles (now s) ⌝ }
+    ensures { λ _. ⌜ now (s .exit) ≡ nibblesOf (length (now (s .entry))) (roundsBy back (length (now (s .entry))) (keyOf k) (stateOf (now (s .entry)))) ⌝ }
+{
+    if back {
+        decrypt(s, k, 0, 0);
+        return;
+    }
+    encrypt(s, k, 0, 0);
 }
 
 // ---- bytes, the first the most significant
@@ -101,6 +132,17 @@ fn write_block(s: &[u8], block: &mut [u8])
     }
 }
 
+// A block, by way of its nibbles, for which there is room.
+fn cross(s: &mut [u8], key: &[u8], block: &mut [u8], back: bool)
+    requires { ⌜ length (now key) ≡ 16 ⌝ }
+    requires { ⌜ (length (now s) ≡ 2 * length (now block)) × (length (now block) % 2 ≡ 0) × (4 ≤ length (now block)) × (length (now block) ≤ 16) ⌝ }
+    ensures { λ _. ⌜ now (block .exit) ≡ toBytes (length (now (block .entry))) (roundsBy back (2 * length (now (block .entry))) (fromBytes (now (key .entry))) (fromBytes (now (block .entry)))) ⌝ }
+{
+    read_block(block, s);
+    through(s, read_key(key), back);
+    write_block(s, block);
+}
+
 // ---- the calls: refusals 1, 2
 
 fn key_code(key: usize, block: usize) -> u32
@@ -123,9 +165,7 @@ pub fn encrypt_by_key(key: &[u8], block: &mut [u8]) -> u32
         return code;
     }
     let mut s = [0u8; 32];
-    read_block(block, &mut s);
-    encrypt(&mut s, read_key(key), 0, 0);
-    write_block(&s, block);
+    cross(&mut s, key, block, false);
     code
 }
 
@@ -137,8 +177,44 @@ pub fn decrypt_by_key(key: &[u8], block: &mut [u8]) -> u32
         return code;
     }
     let mut s = [0u8; 32];
-    read_block(block, &mut s);
-    decrypt(&mut s, read_key(key), 0, 0);
-    write_block(&s, block);
+    cross(&mut s, key, block, true);
+    code
+}
+
+// ---- GIFT-64's, the same
+
+fn key_code_64(key: usize, block: usize) -> u32
+    ensures { λ r. ⌜ r ≡ keyCode64 key block ⌝ }
+{
+    if key != 16 {
+        return BAD_KEY_LENGTH;
+    }
+    if block != 8 {
+        return BAD_BLOCK_LENGTH;
+    }
+    DONE
+}
+
+pub fn encrypt_64_by_key(key: &[u8], block: &mut [u8]) -> u32
+    ensures { λ r. ⌜ EncryptsByKey64 (now (key .entry)) (now (block .entry)) r (now (block .exit)) ⌝ }
+{
+    let code = key_code_64(key.len(), block.len());
+    if code != DONE {
+        return code;
+    }
+    let mut s = [0u8; SMALL];
+    cross(&mut s, key, block, false);
+    code
+}
+
+pub fn decrypt_64_by_key(key: &[u8], block: &mut [u8]) -> u32
+    ensures { λ r. ⌜ DecryptsByKey64 (now (key .entry)) (now (block .entry)) r (now (block .exit)) ⌝ }
+{
+    let code = key_code_64(key.len(), block.len());
+    if code != DONE {
+        return code;
+    }
+    let mut s = [0u8; SMALL];
+    cross(&mut s, key, block, true);
     code
 }

@@ -1,4 +1,4 @@
--- Four words and the block that they stand for: each makes the other, on all 128 bits.
+-- Four words and the block that they stand for: the words of a block stand for it, at every width; and at 128 bits the block of four words has those words.
 use mathlib.Core.Path.{_≡_, refl, ap, _∙_}
 use Prim.Native.Nat.{ℕ, zero, suc, _+_, _*_, _/_, _%_, _^_, _<_}
 use native.Mathlib.Nat.{div-add-mod, le-of-suc-le-suc, not-suc-le-zero}
@@ -7,7 +7,7 @@ use Rattle.bits.specs.Digit.{bit}
 use Rattle.bits.proofs.Bits.{bit-ofBits, bit-ext, ofBits-lt}
 use Rattle.published.specs.Packing.{word}
 use Rattle.primitives.specs.declared.State.{State}
-use Rattle.primitives.specs.Packed.{wordOf, blockOf, stateOf, Words}
+use Rattle.primitives.specs.Packed.{wordOf, blockFrom, stateFrom, blockOf, stateOf, Words}
 
 -- a fact of each j below four
 pub four {ℓ} : (P : ℕ → Type ℓ) → P 0 → P 1 → P 2 → P 3 → (j : ℕ) → j < 4 → P j
@@ -20,9 +20,27 @@ four P p0 p1 p2 p3 (suc (suc (suc (suc j)))) h = absurd (not-suc-le-zero (le-of-
 pub words-at : (s : State) → Words s → (j : ℕ) → j < 4 → wordOf s j < 2 ^ 32
 words-at s h = four (λ (j : ℕ). wordOf s j < 2 ^ 32) (h .0) (h .1) (h .2) (h .3)
 
-pub bit-word : (x j i : ℕ) → i < 32 → bit (word 128 x j) i ≡ bit x (4 * i + j)
+-- at any width
+word-bit : (n x j i : ℕ) → i < n / 4 → bit (word n x j) i ≡ bit x (4 * i + j)
 unfolding word
-bit-word x j i h = bit-ofBits 32 (λ k. bit x (4 * k + j)) i h
+word-bit n x j i h = bit-ofBits (n / 4) (λ k. bit x (4 * k + j)) i h
+
+wordOf-stateFrom : (n x j : ℕ) → j < 4 → wordOf (stateFrom n x) j ≡ word n x j
+wordOf-stateFrom n x = four (λ (j : ℕ). wordOf (stateFrom n x) j ≡ word n x j) refl refl refl refl
+
+-- the packed words of a block are the block
+pub block-of-words : (n : ℕ) → 4 * (n / 4) ≡ n → (x : ℕ) → x < 2 ^ n → blockFrom n (stateFrom n x) ≡ x
+block-of-words n whole x h =
+    bit-ext n (blockFrom n (stateFrom n x)) x (ofBits-lt n _) h
+    (λ q l.
+    bit-ofBits n (λ k. bit (wordOf (stateFrom n x) (k % 4)) (k / 4)) q l ∙ ap (λ (w : ℕ). bit w (q / 4)) (wordOf-stateFrom n x (q % 4) (omega arith))
+    ∙ word-bit n x (q % 4) (q / 4) (omega arith)
+    ∙ ap (bit x) (div-add-mod q 4))
+
+-- ---- at 128 bits
+
+pub bit-word : (x j i : ℕ) → i < 32 → bit (word 128 x j) i ≡ bit x (4 * i + j)
+bit-word = word-bit 128
 
 pub word-lt : (x j : ℕ) → word 128 x j < 2 ^ 32
 unfolding word
@@ -30,7 +48,7 @@ word-lt x j = ofBits-lt 32 (λ i. bit x (4 * i + j))
 
 pub wordOf-stateOf : (x j : ℕ) → j < 4 → wordOf (stateOf x) j ≡ word 128 x j
 unfolding stateOf
-wordOf-stateOf x = four (λ (j : ℕ). wordOf (stateOf x) j ≡ word 128 x j) refl refl refl refl
+wordOf-stateOf = wordOf-stateFrom 128
 
 pub blockOf-lt : (s : State) → blockOf s < 2 ^ 128
 unfolding blockOf
@@ -40,13 +58,9 @@ pub bit-blockOf : (s : State) (q : ℕ) → q < 128 → bit (blockOf s) q ≡ bi
 unfolding blockOf
 bit-blockOf s q h = bit-ofBits 128 (λ k. bit (wordOf s (k % 4)) (k / 4)) q h
 
--- the packed words of a block are the block
 pub blockOf-stateOf : (x : ℕ) → x < 2 ^ 128 → blockOf (stateOf x) ≡ x
-blockOf-stateOf x h =
-    bit-ext 128 (blockOf (stateOf x)) x (blockOf-lt (stateOf x)) h
-    (λ q l.
-    bit-blockOf (stateOf x) q l ∙ ap (λ (w : ℕ). bit w (q / 4)) (wordOf-stateOf x (q % 4) (omega arith)) ∙ bit-word x (q % 4) (q / 4) (omega arith)
-    ∙ ap (bit x) (div-add-mod q 4))
+unfolding blockOf stateOf
+blockOf-stateOf = block-of-words 128 refl
 
 -- and the block of four words has those words
 word-blockOf : (s : State) → Words s → (j : ℕ) → j < 4 → word 128 (blockOf s) j ≡ wordOf s j

@@ -1,7 +1,7 @@
--- The small facts of document 01 that are marked to be proved, and its list of the 40 constants: one table, one claim.
+-- The small facts of document 01 that are marked to be proved, and its list of the 40 constants: one table, one claim. And GIFT-64's, of document 02, likewise.
 use mathlib.Core.Bool.{Bool, true, false, _&&_}
 use mathlib.Core.List.{List, [], _∷_, _++_, map}
-use Prim.Native.Nat.{ℕ, zero, suc, _-_}
+use Prim.Native.Nat.{ℕ, zero, suc, _+_, _-_, _*_, _/_, _%_}
 use lib.Dec.{T, eqb}
 use lib.ListN.{getD, replicate, set}
 use Rattle.bits.specs.Digit.{digit, number, bit, ofBits}
@@ -9,6 +9,7 @@ use Rattle.published.specs.Bytes.{fromBytes, toBytes}
 use Rattle.published.specs.Rounds.{Pair, entry, subCells, P, moved, permBits, xored, keyBit, constantBit, step, constant, round, rounds}
 use Rattle.published.specs.Key.{ror16, update, pairs}
 use Rattle.published.specs.Gift128.{pairOf, pairsOf, rounds128}
+use Rattle.published.specs.Gift64.{pairOf64, rounds64}
 use Rattle.published.specs.Packing.{word}
 
 -- what is looked at, and what it is to be
@@ -70,3 +71,19 @@ facts =
 pub small-facts : T (hold facts)
 unfolding digit number bit ofBits fromBytes toBytes entry subCells P moved permBits xored keyBit constantBit step constant round rounds ror16 update pairs pairOf pairsOf word
 small-facts = tt
+
+-- ---- GIFT-64: document 02's P, at all 64 places the rule at width 64, and one round
+
+abbrev P64 : ℕ → ℕ
+P64 i = 4 * (i / 16) + 16 * ((3 * (i % 16 / 4) + i % 4) % 4) + i % 4
+
+abbrev facts64 : List Row
+facts64 =
+    (map (P 64) (counted 64 0) is map P64 (counted 64 0))
+    ∷ (toBytes 8 (rounds64 (pairs pairOf64 1 0) 0 0)
+    is (0x91 ∷ replicate 6 0x11) ++ (0x19 ∷ []))
+    ∷ []
+
+pub small-facts-64 : T (hold facts64)
+unfolding digit number bit ofBits fromBytes toBytes entry subCells P moved permBits xored keyBit constantBit step constant round rounds ror16 update pairs pairOf64
+small-facts-64 = tt

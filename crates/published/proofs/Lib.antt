@@ -3,5 +3,10 @@ pub mod Facts
 pub mod Reading
 pub mod Steps
 pub mod Undone
+pub mod OneBit
+pub mod RoundTrip
 pub mod Gift128
+pub mod Gift64
 pub mod Calls
+pub mod Calls64
+pub mod Many

@@ -2,6 +2,7 @@
 pub mod Table
 pub mod Columns
 pub mod Shapes
+pub mod Sliced
 pub mod Fixslice
 pub mod Five
 pub mod Eight

@@ -13,9 +13,13 @@ use Rattle.round_words.specs.Arranged.{nibbleAt, constantWord}
 use Rattle.quintuple.specs.declared.Part.{Part}
 use Rattle.quintuple.specs.Boxes.{substituted, boxed}
 
--- the block that four words stand for, k rounds in
+-- the block of n bits that four words stand for, nibble m standing at place `place m` of each word
+abbrev pub blockAt : ℕ → (ℕ → ℕ) → State → ℕ
+blockAt n place s = ofBits n (λ q. bit (wordOf s (q % 4)) (place (q / 4)))
+
+-- and k rounds in
 unfoldable pub blockIn : ℕ → State → ℕ
-blockIn k s = ofBits 128 (λ q. bit (wordOf s (q % 4)) (nibbleAt (5 - k) (q / 4)))
+blockIn k s = blockAt 128 (nibbleAt (5 - k)) s
 
 abbrev pub exchangedOf : State → State
 exchangedOf s = record { s0 = s .s3; s1 = s .s1; s2 = s .s2; s3 = s .s0 }

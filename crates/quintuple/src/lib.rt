@@ -61,7 +61,7 @@ pub fn inv_sbox(s: State) -> State
     State { s0, s1, s2, s3 }
 }
 
-fn exchanged(s: State) -> State
+pub fn exchanged(s: State) -> State
     ensures { λ r. ⌜ r ≡ exchangedOf s ⌝ }
 {
     State {

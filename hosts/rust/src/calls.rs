@@ -152,6 +152,46 @@ extern "C" {
         output: *mut u8,
         output_len: usize,
     ) -> u32;
+    fn gift64_encrypt_by_key(
+        key: *const u8,
+        key_len: usize,
+        block: *mut u8,
+        block_len: usize,
+    ) -> u32;
+    fn gift64_decrypt_by_key(
+        key: *const u8,
+        key_len: usize,
+        block: *mut u8,
+        block_len: usize,
+    ) -> u32;
+    fn gift64_plain_encrypt_by_key(
+        key: *const u8,
+        key_len: usize,
+        block: *mut u8,
+        block_len: usize,
+    ) -> u32;
+    fn gift64_plain_decrypt_by_key(
+        key: *const u8,
+        key_len: usize,
+        block: *mut u8,
+        block_len: usize,
+    ) -> u32;
+    fn gift64_encrypt_blocks(
+        key: *const u8,
+        key_len: usize,
+        input: *const u8,
+        input_len: usize,
+        output: *mut u8,
+        output_len: usize,
+    ) -> u32;
+    fn gift64_decrypt_blocks(
+        key: *const u8,
+        key_len: usize,
+        input: *const u8,
+        input_len: usize,
+        output: *mut u8,
+        output_len: usize,
+    ) -> u32;
 }
 
 /// The edition of the library that this crate declares, as GIFT_HOST_EDITION of include/gift_host.h.
@@ -406,6 +446,68 @@ pub fn stream_piece(stream: &mut Stream, input: &[u8], output: &mut [u8]) -> Res
     answer(unsafe {
         gift_stream_piece(
             stream,
+            input.as_ptr(),
+            input.len(),
+            output.as_mut_ptr(),
+            output.len(),
+        )
+    })
+}
+
+/// Encrypts one block of GIFT-64 by a key, in place. Refusals: 1, 2.
+pub fn encrypt_by_key_64(key: &[u8], block: &mut [u8]) -> Result<(), Refusal> {
+    linked();
+    answer(unsafe {
+        gift64_encrypt_by_key(key.as_ptr(), key.len(), block.as_mut_ptr(), block.len())
+    })
+}
+
+/// Decrypts one block of GIFT-64 by a key, in place. Refusals: 1, 2.
+pub fn decrypt_by_key_64(key: &[u8], block: &mut [u8]) -> Result<(), Refusal> {
+    linked();
+    answer(unsafe {
+        gift64_decrypt_by_key(key.as_ptr(), key.len(), block.as_mut_ptr(), block.len())
+    })
+}
+
+/// The same by the plain engine: slow, and proved to answer as [`encrypt_by_key_64`]. Refusals: 1, 2.
+pub fn plain_encrypt_by_key_64(key: &[u8], block: &mut [u8]) -> Result<(), Refusal> {
+    linked();
+    answer(unsafe {
+        gift64_plain_encrypt_by_key(key.as_ptr(), key.len(), block.as_mut_ptr(), block.len())
+    })
+}
+
+/// The same by the plain engine: slow, and proved to answer as [`decrypt_by_key_64`]. Refusals: 1, 2.
+pub fn plain_decrypt_by_key_64(key: &[u8], block: &mut [u8]) -> Result<(), Refusal> {
+    linked();
+    answer(unsafe {
+        gift64_plain_decrypt_by_key(key.as_ptr(), key.len(), block.as_mut_ptr(), block.len())
+    })
+}
+
+/// Encrypts many blocks of GIFT-64 by a key: block n of the output from block n of the input, each by itself. Refusals: 1, 2, 3.
+pub fn encrypt_blocks_64(key: &[u8], input: &[u8], output: &mut [u8]) -> Result<(), Refusal> {
+    linked();
+    answer(unsafe {
+        gift64_encrypt_blocks(
+            key.as_ptr(),
+            key.len(),
+            input.as_ptr(),
+            input.len(),
+            output.as_mut_ptr(),
+            output.len(),
+        )
+    })
+}
+
+/// Decrypts many blocks of GIFT-64 by a key. Refusals: 1, 2, 3.
+pub fn decrypt_blocks_64(key: &[u8], input: &[u8], output: &mut [u8]) -> Result<(), Refusal> {
+    linked();
+    answer(unsafe {
+        gift64_decrypt_blocks(
+            key.as_ptr(),
+            key.len(),
             input.as_ptr(),
             input.len(),
             output.as_mut_ptr(),

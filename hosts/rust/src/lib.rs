@@ -7,6 +7,7 @@
 mod bench;
 pub mod calls;
 mod counter;
+mod gift64;
 mod mac;
 mod refusal;
 
@@ -14,6 +15,7 @@ use core::fmt;
 
 pub use bench::{Bench, Direction, Lane, Owner, State};
 pub use counter::{Counter, Stream};
+pub use gift64::Gift64;
 pub use mac::{Mac, MacState};
 pub use refusal::Refusal;
 

@@ -8,7 +8,7 @@ use core::fmt;
 pub enum Refusal {
     /// 1: the key is not of 16 bytes.
     BadKeyLength = 1,
-    /// 2: a block, take buffer or tag is not of 16 bytes, or a nonce not of 12; many blocks: the input's length is not a multiple of 16.
+    /// 2: a block, take buffer or tag is not of 16 bytes, or a nonce not of 12; many blocks: the input's length is not a multiple of 16. In GIFT-64, 8 for 16.
     BadBlockLength = 2,
     /// 3: the output is not as long as the input.
     BadOutputLength = 3,
