@@ -40,3 +40,6 @@ BAD_STATE = 10
 
 abbrev pub NOT_THE_OWNER : ℕ
 NOT_THE_OWNER = 11
+
+abbrev pub BAD_ORDER : ℕ
+BAD_ORDER = 13

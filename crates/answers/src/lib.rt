@@ -36,3 +36,6 @@ pub const BAD_STATE: u32 = 10;
 
 // Opening with owner 0; taking from or closing a busy lane with another number than its owner's.
 pub const NOT_THE_OWNER: u32 = 11;
+
+// The order's number is neither 0 nor 1.
+pub const BAD_ORDER: u32 = 13;

@@ -1,9 +1,8 @@
 -- Four words and the block that they stand for: bit i of word j is b(4i+j).
 use mathlib.Core.List.{[], _∷_}
-use Prim.Native.Nat.{ℕ, _/_, _%_, _^_, _<_}
+use Prim.Native.Nat.{ℕ, _^_, _<_}
 use lib.ListN.{getD}
-use Rattle.bits.specs.Digit.{bit, ofBits}
-use Rattle.published.specs.Packing.{word}
+use Rattle.published.specs.Packing.{word, fromWords}
 use Rattle.primitives.specs.declared.State.{State}
 
 -- word j of a state
@@ -11,7 +10,7 @@ abbrev pub wordOf : State → ℕ → ℕ
 wordOf s j = getD (s .s0 ∷ s .s1 ∷ s .s2 ∷ s .s3 ∷ []) j 0
 
 unfoldable pub blockOf : State → ℕ
-blockOf s = ofBits 128 (λ q. bit (wordOf s (q % 4)) (q / 4))
+blockOf s = fromWords 128 (wordOf s)
 
 unfoldable pub stateOf : ℕ → State
 stateOf x = record { s0 = word 128 x 0; s1 = word 128 x 1; s2 = word 128 x 2; s3 = word 128 x 3 }

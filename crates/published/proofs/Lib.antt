@@ -5,3 +5,6 @@ pub mod Steps
 pub mod Undone
 pub mod Gift128
 pub mod Calls
+pub mod Listed
+pub mod Words
+pub mod Seen

@@ -5,4 +5,5 @@ pub mod Key
 pub mod Gift128
 pub mod Calls
 pub mod Packing
+pub mod Seen
 pub mod Inner

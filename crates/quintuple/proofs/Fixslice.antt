@@ -18,11 +18,12 @@ use Rattle.published.specs.Rounds.{P, Pair, entry, subCells, permBits, xored, k
 use Rattle.published.specs.Inner.{back, unentry}
 use Rattle.published.proofs.Steps.{width128, entry-lt, unentry-lt, entry-unentry, bit-subCells, bit-permBits, bit-xored}
 use Rattle.published.proofs.Undone.{round-lt, unround-round}
+use Rattle.published.proofs.Words.{four}
 use Rattle.primitives.specs.declared.State.{State}
 use Rattle.primitives.specs.Words.{permuted}
 use Rattle.primitives.specs.Packed.{wordOf, blockOf, Words}
 use Rattle.primitives.proofs.Moves.{bit-permuted, permuted-lt, permuted-id, permuted-then}
-use Rattle.primitives.proofs.Blocks.{words-at, four, same-words}
+use Rattle.primitives.proofs.Blocks.{words-at, same-words}
 use Rattle.round_words.specs.Arranged.{N, nibbleAt, stands}
 use Rattle.round_words.proofs.Arrangements.{nibbleAt-lt, there-and-back}
 use Rattle.quintuple.specs.Boxes.{column, substituted, boxed}
