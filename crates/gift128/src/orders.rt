@@ -1,15 +1,17 @@
-// The number that each call gives, by the lengths of what is lent: its refusals, tried in document 01's order, and nothing else.
+// The number that each call gives, by the order's number and the lengths of what is lent: its refusals, tried in the documents' order, and nothing else.
 use crate::Gift128;
 use answers::BAD_BLOCK_LENGTH;
 use answers::BAD_KEY_LENGTH;
+use answers::BAD_ORDER;
 use answers::BAD_OUTPUT_LENGTH;
 use answers::BAD_WORD_COUNT;
 use answers::DONE;
+use packing::is_order;
 ghost use mathlib.Core.Path.{_≡_};
 ghost use Rattle.published.specs.Calls.{blockCode, keyCode};
-ghost use Rattle.gift128.specs.Calls.{wordsCode, manyCode};
+ghost use Rattle.gift128.specs.Calls.{orderCode, wordsCode, manyCode};
 
-// One block by a `Gift128`: 2.
+// The block's own length: 2.
 fn block_code(block: usize) -> u32
     ensures { λ r. ⌜ r ≡ blockCode block ⌝ }
 {
@@ -19,30 +21,39 @@ fn block_code(block: usize) -> u32
     DONE
 }
 
-// By a key: 1, 2.
-pub(crate) fn key_code(key: usize, block: usize) -> u32
-    ensures { λ r. ⌜ r ≡ keyCode key block ⌝ }
+// By a key: 13, 1, 2.
+pub(crate) fn key_code(order: u32, key: usize, block: usize) -> u32
+    ensures { λ r. ⌜ r ≡ orderCode order (keyCode key block) ⌝ }
 {
+    if !is_order(order) {
+        return BAD_ORDER;
+    }
     if key != Gift128::KEY_SIZE {
         return BAD_KEY_LENGTH;
     }
     block_code(block)
 }
 
-// By round words: 4, 2.
-pub(crate) fn words_code(words: usize, block: usize) -> u32
-    ensures { λ r. ⌜ r ≡ wordsCode words block ⌝ }
+// By round words: 13, 4, 2.
+pub(crate) fn words_code(order: u32, words: usize, block: usize) -> u32
+    ensures { λ r. ⌜ r ≡ orderCode order (wordsCode words block) ⌝ }
 {
+    if !is_order(order) {
+        return BAD_ORDER;
+    }
     if words != 80 {
         return BAD_WORD_COUNT;
     }
     block_code(block)
 }
 
-// Many blocks by a key: 1, 2, 3.
-pub(crate) fn many_code(key: usize, input: usize, output: usize) -> u32
-    ensures { λ r. ⌜ r ≡ manyCode key input output ⌝ }
+// Many blocks by a key: 13, 1, 2, 3.
+pub(crate) fn many_code(order: u32, key: usize, input: usize, output: usize) -> u32
+    ensures { λ r. ⌜ r ≡ orderCode order (manyCode key input output) ⌝ }
 {
+    if !is_order(order) {
+        return BAD_ORDER;
+    }
     if key != Gift128::KEY_SIZE {
         return BAD_KEY_LENGTH;
     }

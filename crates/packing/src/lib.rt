@@ -8,7 +8,7 @@ ghost use Prim.Native.Nat.{_+_, _*_, _^_, _<_};
 ghost use lib.ListN.{length};
 ghost use Rattle.bits.specs.Digit.{digit};
 ghost use Rattle.published.specs.Bytes.{toBytes};
-ghost use Rattle.published.specs.Seen.{readIn, writeIn};
+ghost use Rattle.published.specs.Seen.{isOrder, readIn, writeIn};
 ghost use Rattle.primitives.specs.Packed.{blockOf, stateOf};
 ghost use Rattle.packing.specs.Packing.{packed, unpacked};
 ghost use Rattle.packing.specs.Inner.{fourAt, halfAt, copied, reordered, crossed, rising, gatheredFrom, scatteredFrom, wordFrom, halfFrom};
@@ -172,6 +172,12 @@ fn to_words(state: State, output: &mut [u8])
 pub const NUMBER: u32 = 0;
 
 pub const WORDS: u32 = 1;
+
+pub fn is_order(order: u32) -> bool
+    ensures { λ r. ⌜ r ≡ isOrder order ⌝ }
+{
+    order <= WORDS
+}
 
 // Sixteen bytes are packed, as the order has them; of any other number of bytes, and in any other order, come four zero words.
 pub fn packing(order: u32, input: &[u8]) -> State

@@ -4,7 +4,7 @@ use mathlib.Core.Path.{_≡_}
 use mathlib.Core.Bool.{Bool}
 use mathlib.Core.List.{List, [], _∷_, _++_}
 use Prim.Native.Nat.{ℕ, zero, suc, _+_, _*_, _^_, _<_}
-use lib.Dec.{ltb}
+use lib.Dec.{leb}
 use lib.ListN.{length, getD}
 use Rattle.published.specs.Bytes.{fromBytes, toBytes, readBlock, writeBlock, Bytes}
 use Rattle.published.specs.Packing.{word, fromWords}
@@ -28,7 +28,7 @@ writeWords x = toBytes 4 (word 128 x 0) ++ toBytes 4 (word 128 x 1) ++ toBytes 4
 
 -- whether there is an order of a number, and the order that it is
 abbrev pub isOrder : ℕ → Bool
-isOrder order = ltb order 2
+isOrder order = leb order 1
 
 abbrev pub readIn : (order : ℕ) → List ℕ → ℕ
 readIn zero = readBlock

@@ -2,7 +2,7 @@
 use mathlib.Core.Path.{sym, _∙_}
 use borrow.Author.Needs.{needs}
 use Rattle.answers.proofs.Outcome.{refuses, done}
-use Rattle.gift128.proofs.Answers.{words-passed}
+use Rattle.gift128.proofs.Answers.{order-passed, words-passed}
 use Rattle.gift128.proofs.by_words.Statement.{statement}
 use Rattle.gift128.proofs.by_words.Tie as tie
 
@@ -10,7 +10,9 @@ returns : tie.Need-returns
 returns c = refuses (c .before .words-code .ensures) (c .if1 .taken)
 
 in-place-requires : tie.Need-in-place-requires
-in-place-requires c κs = words-passed _ _ (sym (c .before .before .words-code .ensures) ∙ c .before .if1 .left)
+in-place-requires c κs =
+    let o = order-passed _ _ (sym (c .before .before .words-code .ensures) ∙ c .before .if1 .left) in
+    (o .0, words-passed _ _ (o .1))
 
 returns-2 : tie.Need-returns-2
 returns-2 c =

@@ -3,7 +3,7 @@ use mathlib.Core.Path.{refl, sym, ap, _∙_}
 use mathlib.Core.List.{List}
 use Prim.Native.Nat.{ℕ}
 use native.Mathlib.Omega.{arith}
-use borrow.Author.Tests.{le-ltb}
+use borrow.Author.Tests.{lt-leb}
 use Rattle.packing.specs.Packing.{packed}
 use Rattle.packing.proofs.Inverse.{packed-block, packed-other, packed-in-none}
 use Rattle.packing.proofs.packing.Statement.{statement}
@@ -24,7 +24,7 @@ returns-2 c =
 returns-3 : tie.Need-returns-3
 returns-3 c =
     let a = c .before .before .before .before .args in
-    sym (packed-in-none (a .order) (a .input .now) (le-ltb (a .order) 2 (omega arith)))
+    sym (packed-in-none (a .order) (a .input .now) (lt-leb (a .order) 1 (omega arith)))
 
 returns-4 : tie.Need-returns-4
 returns-4 c =

@@ -4,7 +4,7 @@ use mathlib.Core.List.{List}
 use Prim.Native.Nat.{ℕ}
 use native.Mathlib.Omega.{arith}
 use borrow.Author.Needs.{needs}
-use borrow.Author.Tests.{le-ltb}
+use borrow.Author.Tests.{lt-leb}
 use Rattle.packing.specs.Packing.{unpacked}
 use Rattle.packing.proofs.Inverse.{unpacked-block, unpacked-other, unpacked-in-none}
 use Rattle.packing.proofs.unpacking.Statement.{statement}
@@ -27,7 +27,7 @@ returns-2 c =
 returns-3 : tie.Need-returns-3
 returns-3 c =
     let a = c .before .before .before .before .args in
-    sym (unpacked-in-none (a .order) (a .state) (a .output .now) (le-ltb (a .order) 2 (omega arith)))
+    sym (unpacked-in-none (a .order) (a .state) (a .output .now) (lt-leb (a .order) 1 (omega arith)))
 
 returns-4 : tie.Need-returns-4
 returns-4 c =
