@@ -12,7 +12,7 @@ use Rattle.answers.specs.Order.{ifDone}
 use Rattle.published.specs.Calls.{blockCode}
 use Rattle.published.specs.Gift128.{encrypted}
 use Rattle.published.proofs.Reading.{length-toBytes}
-use Rattle.gift128.specs.Calls.{EncryptsByWords, encryptedBy, wordsCode}
+use Rattle.gift128.specs.Calls.{orderCode, EncryptsByWordsIn, encryptedBy, wordsCode}
 use Rattle.cmac.specs.Standard.{_⊕_, zeroBlock, blockCount, before, blocks, past, lastBlock, chained, cmac}
 
 -- ---- the cipher by words
@@ -22,8 +22,8 @@ unfolding encryptedBy
 length-encryptedBy ws b = length-toBytes 16 _
 
 -- what the cipher's call leaves, where the lengths are right
-pub encrypts : (ws b : List ℕ) {r : ℕ} {e : List ℕ} → length ws ≡ 80 → length b ≡ 16 → EncryptsByWords ws b r e → e ≡ encryptedBy ws b
-unfolding wordsCode blockCode
+pub encrypts : (ws b : List ℕ) {r : ℕ} {e : List ℕ} → length ws ≡ 80 → length b ≡ 16 → EncryptsByWordsIn 0 ws b r e → e ≡ encryptedBy ws b
+unfolding orderCode wordsCode blockCode encryptedBy
 encrypts ws b {r} {e} w l g = g .leaves ∙ ap₂ (λ (m n : ℕ). ifDone (wordsCode m n) (encryptedBy ws b) b) w l
 
 -- ---- how many blocks are before the last
