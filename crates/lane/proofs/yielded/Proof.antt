@@ -9,4 +9,4 @@ unfolding yielded
 returns c = search needs
 
 pub yielded-spec : {M : Type 1} → statement M
-yielded-spec = tie.close (tie.spec (λ c κs. search needs) (λ c. search needs) returns)
+yielded-spec = tie.close (tie.spec (λ c. search needs) (λ c κs. search needs) (λ c. search needs) returns)
