@@ -3,6 +3,7 @@ mod orders;
 
 use answers::DONE;
 use key_schedule::precompute_rkeys;
+use orders::in_order;
 use orders::key_code;
 use orders::many_code;
 use orders::words_code;
@@ -132,7 +133,7 @@ fn in_place(order: u32, rkey: &[u32], block: &mut [u8], back: bool)
 fn by_words(order: u32, rkey: &[u32], block: &mut [u8], back: bool) -> u32
     ensures { λ r. ⌜ Gives (orderCode order (wordsCode (length (now (rkey .entry))) (length (now (block .entry))))) (seen order (roundsBy back (now (rkey .entry))) (now (block .entry))) (now (block .entry)) r (now (block .exit)) ⌝ }
 {
-    let code = words_code(order, rkey.len(), block.len());
+    let code = in_order(order, words_code(rkey.len(), block.len()));
     if code != DONE {
         return code;
     }
@@ -156,7 +157,7 @@ pub fn decrypt_by_words(order: u32, rkey: &[u32], block: &mut [u8]) -> u32
 fn by_key(order: u32, key: &[u8], block: &mut [u8], back: bool) -> u32
     ensures { λ r. ⌜ Gives (orderCode order (keyCode (length (now (key .entry))) (length (now (block .entry))))) (seen order (roundsOf back (now (key .entry))) (now (block .entry))) (now (block .entry)) r (now (block .exit)) ⌝ }
 {
-    let code = key_code(order, key.len(), block.len());
+    let code = in_order(order, key_code(key.len(), block.len()));
     if code != DONE {
         return code;
     }
@@ -183,7 +184,7 @@ pub fn decrypt_by_key(order: u32, key: &[u8], block: &mut [u8]) -> u32
 pub fn one_round(key: &[u8], block: &mut [u8]) -> u32
     ensures { λ r. ⌜ MakesOneRound (now (key .entry)) (now (block .entry)) r (now (block .exit)) ⌝ }
 {
-    let code = key_code(NUMBER, key.len(), block.len());
+    let code = key_code(key.len(), block.len());
     if code != DONE {
         return code;
     }
@@ -229,7 +230,8 @@ fn all(order: u32, rkey: &[u32], input: &[u8], output: &mut [u8], back: bool)
 fn many_by_key(order: u32, key: &[u8], input: &[u8], output: &mut [u8], back: bool) -> u32
     ensures { λ r. ⌜ Gives (orderCode order (manyCode (length (now (key .entry))) (length (now (input .entry))) (length (now (output .entry))))) (allBlocks (seen order (roundsOf back (now (key .entry)))) (now (input .entry))) (now (output .entry)) r (now (output .exit)) ⌝ }
 {
-    let code = many_code(order, key.len(), input.len(), output.len());
+    let own = many_code(key.len(), input.len(), output.len());
+    let code = in_order(order, own);
     if code != DONE {
         return code;
     }

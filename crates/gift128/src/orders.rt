@@ -11,7 +11,17 @@ ghost use mathlib.Core.Path.{_≡_};
 ghost use Rattle.published.specs.Calls.{blockCode, keyCode};
 ghost use Rattle.gift128.specs.Calls.{orderCode, wordsCode, manyCode};
 
-// The block's own length: 2.
+// 13, and then the call's own number.
+pub(crate) fn in_order(order: u32, own: u32) -> u32
+    ensures { λ r. ⌜ r ≡ orderCode order own ⌝ }
+{
+    if !is_order(order) {
+        return BAD_ORDER;
+    }
+    own
+}
+
+// One block by a `Gift128`: 2.
 fn block_code(block: usize) -> u32
     ensures { λ r. ⌜ r ≡ blockCode block ⌝ }
 {
@@ -21,39 +31,30 @@ fn block_code(block: usize) -> u32
     DONE
 }
 
-// By a key: 13, 1, 2.
-pub(crate) fn key_code(order: u32, key: usize, block: usize) -> u32
-    ensures { λ r. ⌜ r ≡ orderCode order (keyCode key block) ⌝ }
+// By a key: 1, 2.
+pub(crate) fn key_code(key: usize, block: usize) -> u32
+    ensures { λ r. ⌜ r ≡ keyCode key block ⌝ }
 {
-    if !is_order(order) {
-        return BAD_ORDER;
-    }
     if key != Gift128::KEY_SIZE {
         return BAD_KEY_LENGTH;
     }
     block_code(block)
 }
 
-// By round words: 13, 4, 2.
-pub(crate) fn words_code(order: u32, words: usize, block: usize) -> u32
-    ensures { λ r. ⌜ r ≡ orderCode order (wordsCode words block) ⌝ }
+// By round words: 4, 2.
+pub(crate) fn words_code(words: usize, block: usize) -> u32
+    ensures { λ r. ⌜ r ≡ wordsCode words block ⌝ }
 {
-    if !is_order(order) {
-        return BAD_ORDER;
-    }
     if words != 80 {
         return BAD_WORD_COUNT;
     }
     block_code(block)
 }
 
-// Many blocks by a key: 13, 1, 2, 3.
-pub(crate) fn many_code(order: u32, key: usize, input: usize, output: usize) -> u32
-    ensures { λ r. ⌜ r ≡ orderCode order (manyCode key input output) ⌝ }
+// Many blocks by a key: 1, 2, 3.
+pub(crate) fn many_code(key: usize, input: usize, output: usize) -> u32
+    ensures { λ r. ⌜ r ≡ manyCode key input output ⌝ }
 {
-    if !is_order(order) {
-        return BAD_ORDER;
-    }
     if key != Gift128::KEY_SIZE {
         return BAD_KEY_LENGTH;
     }

@@ -12,17 +12,16 @@ use Rattle.published.proofs.Steps.{width128}
 use Rattle.published.proofs.Undone.{rounds-lt}
 use Rattle.published.proofs.Calls.{key-passed}
 use Rattle.quintuple.specs.Quintuple.{firstRound}
-use Rattle.gift128.specs.Calls.{orderCode, afterOne}
+use Rattle.gift128.specs.Calls.{afterOne}
 use Rattle.gift128.proofs.Blocks.{through, filled, first-of-key}
 use Rattle.gift128.proofs.one_round.Statement.{statement}
 use Rattle.gift128.proofs.one_round.Tie as tie
 
 returns : tie.Need-returns
-unfolding orderCode
 returns c = refuses (c .before .key-code .ensures) (c .if1 .taken)
 
 returns-2 : tie.Need-returns-2
-unfolding orderCode afterOne
+unfolding afterOne
 returns-2 c =
     let once = c .before .before .before .before in
     let packs = once .before .before in
