@@ -80,14 +80,24 @@ pub extern "C" fn gift_expand(key: &[u8], words: &mut [u32]) -> u32
 
 // Many blocks by a key, from one buffer to another. Refusals: 13, 1, 2, 3.
 #[no_mangle]
-pub extern "C" fn gift_encrypt_blocks(order: u32, key: &[u8], input: &[u8], output: &mut [u8]) -> u32
+pub extern "C" fn gift_encrypt_blocks(
+    order: u32,
+    key: &[u8],
+    input: &[u8],
+    output: &mut [u8],
+) -> u32
     ensures { λ r. ⌜ EncryptsBlocksIn order (now (key .entry)) (now (input .entry)) (now (output .entry)) r (now (output .exit)) ⌝ }
 {
     gift128::encrypt_blocks(order, key, input, output)
 }
 
 #[no_mangle]
-pub extern "C" fn gift_decrypt_blocks(order: u32, key: &[u8], input: &[u8], output: &mut [u8]) -> u32
+pub extern "C" fn gift_decrypt_blocks(
+    order: u32,
+    key: &[u8],
+    input: &[u8],
+    output: &mut [u8],
+) -> u32
     ensures { λ r. ⌜ DecryptsBlocksIn order (now (key .entry)) (now (input .entry)) (now (output .entry)) r (now (output .exit)) ⌝ }
 {
     gift128::decrypt_blocks(order, key, input, output)
@@ -107,16 +117,7 @@ pub extern "C" fn gift_open_lane(
 ) -> u32
     ensures { λ r. ⌜ Opens (now (lanes .entry)) last lane owner direction order (now (key .entry)) (now (block .entry)) r (now (lanes .exit)) ⌝ }
 {
-    bench_lent::open_lane(
-        lanes,
-        last,
-        lane,
-        owner,
-        direction,
-        order,
-        key,
-        block,
-    )
+    bench_lent::open_lane(lanes, last, lane, owner, direction, order, key, block)
 }
 
 // Turns: 10, 8. The last served number goes in, and comes back.

@@ -27,6 +27,10 @@ pub busy-is : (l : Lane) → l .phase ≢ idle → soundLane l ≡ (not (eqb (l 
 unfolding soundLane everything allZero
 busy-is l busy = rw (ne-eqb (l .phase) 0 busy)
 
+-- with an owner and a direction it is sound as its order and its count are
+pub busy-ordered : (l : Lane) {t : Bool} → l .phase ≢ idle → l .owner ≢ 0 → l .direction ≤ 1 → isOrder (l .order) ≡ t → soundLane l ≡ (t && soundCount (l .phase) (l .count))
+busy-ordered l busy owned way e = busy-is l busy ∙ (rw (ne-eqb (l .owner) 0 owned, le-leb (l .direction) 1 way, e))
+
 -- a busy record that is sound, as facts
 pub record Tidy (l : Lane) : Type 0 where
   pub owned : l .owner ≢ 0

@@ -59,7 +59,11 @@ fn all_zero(l: Lane) -> bool
 {
     let words = l.words;
     let state = l.state;
-    let head = (l.phase as u32) | (l.direction as u32) | (l.owner as u32) | (l.count as u32) | (l.order as u32);
+    let head = (l.phase as u32)
+        | (l.direction as u32)
+        | (l.owner as u32)
+        | (l.count as u32)
+        | (l.order as u32);
     let block = state.s0 | state.s1 | state.s2 | state.s3;
     (head | block | any_bit(words)) == 0
 }
