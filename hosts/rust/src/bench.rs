@@ -19,6 +19,17 @@ pub enum Direction {
     Decrypt = 1,
 }
 
+/// How the sixteen bytes of a block are seen as its 128 bits, and these as bytes again. The rounds and the key are the same in both.
+#[derive(Clone, Copy, Debug, Default, PartialEq, Eq, Hash)]
+#[repr(u8)]
+pub enum Order {
+    /// 0: one number, the first byte the most significant, as in the GIFT paper. It is what every call does that names no order.
+    #[default]
+    Number = 0,
+    /// 1: four words, word j of bytes 4j to 4j+3, the most significant first, as in GIFT-COFB.
+    Words = 1,
+}
+
 /// A guest's number, from 1 to 65535: the lanes that are opened with it are that guest's.
 #[derive(Clone, Copy, Debug, PartialEq, Eq, PartialOrd, Ord, Hash)]
 pub struct Owner(NonZeroU16);
@@ -38,7 +49,7 @@ impl Owner {
     }
 }
 
-/// A block's four words: bit i of word j is bit 4i+j of the block, whose first byte is the most significant.
+/// A block's four words: bit i of word j is bit 4i+j of the block.
 #[derive(Clone, Copy, Default, PartialEq, Eq)]
 #[repr(C)]
 #[allow(missing_docs)]
@@ -49,8 +60,8 @@ pub struct State {
     pub s3: u32,
 }
 
-/// One lane's record. It is sound if it is all zero, which is idle, or if its owner is not 0, its direction is 0 or 1 and it is running with count 0 to 7 or
-/// finished with count 8.
+/// One lane's record. It is sound if it is all zero, which is idle, or if its owner is not 0, its direction and its order are 0 or 1 and it is running with
+/// count 0 to 7 or finished with count 8.
 #[derive(Clone, Copy, PartialEq, Eq)]
 #[repr(C)]
 pub struct Lane {
@@ -61,7 +72,9 @@ pub struct Lane {
     /// The number of the guest that opened it; 0 while it is idle.
     pub owner: u16,
     /// Its own turns since it was opened.
-    pub count: u32,
+    pub count: u16,
+    /// 0 or 1, an [`Order`]'s number: how a take writes its block.
+    pub order: u16,
     /// Its round words. They are zero after a take or a close.
     pub words: [u32; 80],
     /// Its block, as far as it has come.
@@ -76,6 +89,7 @@ const _: () = assert!(
         && offset_of!(Lane, direction) == 1
         && offset_of!(Lane, owner) == 2
         && offset_of!(Lane, count) == 4
+        && offset_of!(Lane, order) == 6
 );
 const _: () = assert!(offset_of!(Lane, words) == 8 && offset_of!(Lane, state) == 328);
 
@@ -93,6 +107,7 @@ impl Lane {
         direction: 0,
         owner: 0,
         count: 0,
+        order: 0,
         words: [0; 80],
         state: State {
             s0: 0,
@@ -111,6 +126,7 @@ impl fmt::Debug for Lane {
             .field("direction", &self.direction)
             .field("owner", &self.owner)
             .field("count", &self.count)
+            .field("order", &self.order)
             .finish_non_exhaustive()
     }
 }
@@ -173,7 +189,21 @@ impl Bench {
         key: &[u8],
         block: &[u8],
     ) -> Result<(), Refusal> {
-        calls::open_lane(
+        self.open_in(Order::Number, lane, owner, direction, key, block)
+    }
+
+    /// The same, the block read in an order, in which a take writes it too.
+    pub fn open_in(
+        &mut self,
+        order: Order,
+        lane: u32,
+        owner: Owner,
+        direction: Direction,
+        key: &[u8],
+        block: &[u8],
+    ) -> Result<(), Refusal> {
+        calls::open_lane_in(
+            order as u32,
             &mut self.lanes,
             self.last,
             lane,

@@ -1,4 +1,4 @@
-//! The eleven refusals, by name and by number.
+//! The twelve refusals, by name and by number.
 
 use core::fmt;
 
@@ -28,11 +28,13 @@ pub enum Refusal {
     BadBench = 10,
     /// 11: opening with owner 0; taking from or closing a busy lane with another number than its owner's.
     NotTheOwner = 11,
+    /// 13: an order that is neither 0 nor 1.
+    BadOrder = 13,
 }
 
 impl Refusal {
-    /// All eleven, in the order of their numbers.
-    pub const ALL: [Refusal; 11] = [
+    /// All twelve, in the order of their numbers.
+    pub const ALL: [Refusal; 12] = [
         Refusal::BadKeyLength,
         Refusal::BadBlockLength,
         Refusal::BadOutputLength,
@@ -44,9 +46,10 @@ impl Refusal {
         Refusal::BadDirection,
         Refusal::BadBench,
         Refusal::NotTheOwner,
+        Refusal::BadOrder,
     ];
 
-    /// Its number, 1 to 11.
+    /// Its number, 1 to 11 or 13.
     pub const fn number(self) -> u32 {
         self as u32
     }
@@ -84,6 +87,7 @@ impl fmt::Display for Refusal {
             Refusal::BadDirection => "the direction is neither 0 nor 1",
             Refusal::BadBench => "the bench is not sound",
             Refusal::NotTheOwner => "the lane is another's",
+            Refusal::BadOrder => "the order is neither 0 nor 1",
         })
     }
 }

@@ -8,18 +8,18 @@ const WORD_COUNTS: [usize; 7] = [0, 1, 16, 79, 80, 81, 160];
 
 #[test]
 fn numbers_and_names() {
-    for (n, refusal) in (1..).zip(Refusal::ALL) {
+    for (n, refusal) in (1..12).chain([13]).zip(Refusal::ALL) {
         assert_eq!(
             (refusal.number(), u32::from(refusal), Refusal::try_from(n)),
             (n, n, Ok(refusal))
         );
     }
-    for n in [0, 12, 255, 256, 257, u32::MAX] {
+    for n in [0, 12, 14, 255, 256, 257, u32::MAX] {
         assert_eq!(Refusal::try_from(n), Err(n));
     }
     let told: std::collections::HashSet<String> =
         Refusal::ALL.iter().map(|r| r.to_string()).collect();
-    assert_eq!(told.len(), 11);
+    assert_eq!(told.len(), 12);
 }
 
 #[test]
@@ -273,12 +273,28 @@ fn unsound_benches() {
         lane != Lane::FRESH
             && (lane.owner == 0
                 || lane.direction > 1
+                || lane.order > 1
                 || !matches!((lane.phase, lane.count), (1, 0..=7) | (2, 8)))
     };
     let mut refusals = 0;
     for phase in [0, 1, 2, 3, 255] {
         for (direction, owner) in [(0, 1), (1, 65535), (2, 1), (255, 1), (0, 0), (1, 256)] {
-            for count in [0, 1, 7, 8, 9, 255, 256, 263, 264, 65544, u32::MAX] {
+            for (count, order) in [
+                (0, 0),
+                (0, 1),
+                (1, 1),
+                (7, 2),
+                (7, 0),
+                (8, 1),
+                (8, 256),
+                (9, 0),
+                (255, 0),
+                (256, 1),
+                (263, 0),
+                (264, 1),
+                (u16::MAX, 0),
+                (8, u16::MAX),
+            ] {
                 for place in 0..Bench::LANES as usize {
                     let mut lanes = *some_bench().records();
                     lanes[place] = Lane {
@@ -286,6 +302,7 @@ fn unsound_benches() {
                         direction,
                         owner,
                         count,
+                        order,
                         ..lanes[place]
                     };
                     let bench = Bench::from_records(lanes, 1);
@@ -366,9 +383,12 @@ fn idle_records_are_all_zero() {
         assert_eq!(refused(&bench, |b| b.close(2, guest(1))), BadBench);
     };
     bits(&|l| l.direction = 1);
-    (0..16).for_each(|bit| bits(&|l| l.owner = 1 << bit));
-    for bit in 0..32 {
+    for bit in 0..16 {
+        bits(&|l| l.owner = 1 << bit);
         bits(&|l| l.count = 1 << bit);
+        bits(&|l| l.order = 1 << bit);
+    }
+    for bit in 0..32 {
         (0..80).for_each(|word| bits(&|l| l.words[word] = 1 << bit));
         bits(&|l| l.state.s0 = 1 << bit);
         bits(&|l| l.state.s1 = 1 << bit);
@@ -469,6 +489,6 @@ fn round_words_are_not_told() {
     assert_eq!(format!("{:?}", Gift128::new(&[5; 16])), "Gift128 { ... }");
     assert_eq!(
         format!("{:?}", bench.records()[0]),
-        "Lane { phase: 1, direction: 0, owner: 1, count: 0, .. }"
+        "Lane { phase: 1, direction: 0, owner: 1, count: 0, order: 0, .. }"
     );
 }

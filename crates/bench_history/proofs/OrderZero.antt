@@ -1,0 +1,73 @@
+-- In order 0, packing and unpacking answer, an opening is numbered, and a lane is opened, stands and yields as it was before there was another order. (Of the block calls
+-- `gift128` says it: OrderZero there.)
+use mathlib.Core.Path.{_≡_, refl, ap, _∙_}
+use mathlib.Core.Bool.{Bool, cond, not}
+use mathlib.Core.List.{List}
+use Prim.Native.Nat.{ℕ, _-_, _*_}
+use lib.Dec.{eqb, leb, ltb}
+use lib.ListN.{length, take, drop}
+use Rattle.answers.specs.Numbers.{DONE, BAD_KEY_LENGTH, BAD_BLOCK_LENGTH, BAD_LANE, LANE_NOT_IDLE, BAD_DIRECTION, BAD_BENCH, NOT_THE_OWNER}
+use Rattle.answers.specs.Order.{unless}
+use Rattle.published.specs.Bytes.{readBlock, writeBlock}
+use Rattle.published.specs.Gift128.{pairsOf, rounds128, unrounds128, encrypted, decrypted}
+use Rattle.primitives.specs.declared.State.{State}
+use Rattle.primitives.specs.Packed.{blockOf, stateOf}
+use Rattle.packing.specs.Packing.{noWords, packed, unpacked}
+use Rattle.gift128.specs.Calls.{newWords}
+use Rattle.lane.specs.declared.Lane.{Lane}
+use Rattle.lane.specs.Record.{idle, running, opened, yielded}
+use Rattle.bench.specs.Turning.{laneCount}
+use Rattle.bench.specs.Orders.{openCode}
+use Rattle.bench_history.specs.Promises.{reached, answer}
+
+pub packed-0 : (bs : List ℕ) → packed 0 bs ≡ cond (eqb (length bs) 16) (stateOf (readBlock bs)) noWords
+unfolding packed
+packed-0 bs = refl
+
+pub unpacked-0 : (s : State) (out : List ℕ) → unpacked 0 s out ≡ cond (eqb (length out) 16) (writeBlock (blockOf s)) out
+unfolding unpacked
+unpacked-0 s out = refl
+
+-- 10, 5, 6, 11, 9, 1, 2
+pub open-number-0 : (sound : Bool) (lane phase owner direction key block : ℕ)
+    → openCode sound lane phase owner direction 0 key block
+    ≡ unless sound BAD_BENCH
+    (unless (ltb lane laneCount) BAD_LANE
+    (unless (eqb phase idle) LANE_NOT_IDLE
+    (unless (not (eqb owner 0)) NOT_THE_OWNER
+    (unless (leb direction 1) BAD_DIRECTION
+    (unless (eqb key 16) BAD_KEY_LENGTH
+    (unless (eqb block 16) BAD_BLOCK_LENGTH
+    DONE))))))
+unfolding openCode
+open-number-0 sound lane phase owner direction key block = refl
+
+pub opened-0 : (owner direction : ℕ) (key block : List ℕ)
+    → opened owner direction 0 key block
+    ≡ record {
+      phase = running;
+      direction = direction;
+      owner = owner;
+      count = 0;
+      order = 0;
+      words = newWords key;
+      state = cond (eqb (length block) 16) (stateOf (readBlock block)) noWords;
+    }
+unfolding opened packed
+opened-0 owner direction key block = refl
+
+pub yielded-0 : (l : Lane) (out : List ℕ) → l .order ≡ 0 → yielded l out ≡ cond (eqb (length out) 16) (writeBlock (blockOf (l .state))) out
+unfolding yielded unpacked
+yielded-0 l out e = ap (λ (o : ℕ). unpacked o (l .state) out) e
+
+pub reached-0 : (direction : ℕ) (key block : List ℕ) (t : ℕ)
+    → reached direction 0 key block t
+    ≡ cond (eqb direction 0)
+    (rounds128 (take (5 * t) (pairsOf key)) 0 (readBlock block))
+    (unrounds128 (drop (40 - 5 * t) (pairsOf key)) (40 - 5 * t) (readBlock block))
+unfolding reached
+reached-0 direction key block t = refl
+
+pub answer-0 : (direction : ℕ) (key block : List ℕ) → answer direction 0 key block ≡ cond (eqb direction 0) (encrypted key block) (decrypted key block)
+unfolding answer encrypted decrypted
+answer-0 direction key block = refl
