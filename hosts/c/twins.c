@@ -53,7 +53,7 @@ static void differs(const char *what)
 static void numbers(uint32_t one, uint32_t two)
 {
     calls++;
-    if (one < 12)
+    if (one < NUMBERS)
         given[one]++;
     if (one != two)
         differs("the number");

@@ -71,10 +71,9 @@ pub struct Lane {
     pub direction: u8,
     /// The number of the guest that opened it; 0 while it is idle.
     pub owner: u16,
-    /// Its own turns since it was opened.
-    pub count: u16,
-    /// 0 or 1, an [`Order`]'s number: how a take writes its block.
-    pub order: u16,
+    /// Its own turns since it was opened, and in its upper half the number of its order, which is 0 in a lane of [`Order::Number`]: [`Lane::turns`] and
+    /// [`Lane::order`] tell the two apart. (In C they are two members of 16 bits.)
+    pub count: u32,
     /// Its round words. They are zero after a take or a close.
     pub words: [u32; 80],
     /// Its block, as far as it has come.
@@ -89,9 +88,10 @@ const _: () = assert!(
         && offset_of!(Lane, direction) == 1
         && offset_of!(Lane, owner) == 2
         && offset_of!(Lane, count) == 4
-        && offset_of!(Lane, order) == 6
 );
 const _: () = assert!(offset_of!(Lane, words) == 8 && offset_of!(Lane, state) == 328);
+// The turns are the lower half of a lane's count, and lie before the order.
+const _: () = assert!(cfg!(target_endian = "little"));
 
 impl Lane {
     /// The phase of a lane that can be opened.
@@ -107,7 +107,6 @@ impl Lane {
         direction: 0,
         owner: 0,
         count: 0,
-        order: 0,
         words: [0; 80],
         state: State {
             s0: 0,
@@ -116,18 +115,30 @@ impl Lane {
             s3: 0,
         },
     };
+
+    /// Its own turns since it was opened.
+    pub const fn turns(&self) -> u16 {
+        self.count as u16
+    }
+
+    /// The number of its order, by which a take writes its block: 0 or 1 in a sound record.
+    pub const fn order(&self) -> u16 {
+        (self.count >> 16) as u16
+    }
 }
 
 /// Tells neither round words nor state.
 impl fmt::Debug for Lane {
     fn fmt(&self, f: &mut fmt::Formatter<'_>) -> fmt::Result {
-        f.debug_struct("Lane")
-            .field("phase", &self.phase)
+        let mut told = f.debug_struct("Lane");
+        told.field("phase", &self.phase)
             .field("direction", &self.direction)
             .field("owner", &self.owner)
-            .field("count", &self.count)
-            .field("order", &self.order)
-            .finish_non_exhaustive()
+            .field("count", &self.turns());
+        if self.order() != 0 {
+            told.field("order", &self.order());
+        }
+        told.finish_non_exhaustive()
     }
 }
 

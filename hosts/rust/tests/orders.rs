@@ -53,7 +53,9 @@ fn known_answers() {
             bench
                 .open_in(Order::Words, 3, guest(), direction, &KEY, &from)
                 .unwrap();
-            assert_eq!(bench.records()[3].order, 1);
+            let lane = bench.records()[3];
+            assert_eq!((lane.turns(), lane.order()), (0, 1));
+            assert!(format!("{lane:?}").ends_with("count: 0, order: 1, .. }"));
             bench.turn(8).unwrap();
             assert_eq!(bench.take(3, guest()), Ok(to));
             assert_eq!(bench.records()[3], Lane::FRESH);
@@ -74,11 +76,11 @@ fn order_0_is_what_names_no_order() {
             b
         };
         cipher.encrypt_block(&mut block);
+        assert_eq!(block, made(&|b| cipher.encrypt_block_in(Order::Number, b)));
         assert_eq!(
             block,
-            made(&|b| cipher.encrypt_block_in(Order::Number, b))
+            made(&|b| cipher.encrypt_block_in(Order::default(), b))
         );
-        assert_eq!(block, made(&|b| cipher.encrypt_block_in(Order::default(), b)));
         assert_eq!(
             block,
             made(&|b| calls::encrypt_by_key_in(0, &KEY, b).unwrap())
@@ -97,22 +99,12 @@ fn order_0_is_what_names_no_order() {
             .open(5, guest(), Direction::Encrypt, &KEY, &before)
             .unwrap();
         benches[1]
-            .open_in(
-                Order::Number,
-                5,
-                guest(),
-                Direction::Encrypt,
-                &KEY,
-                &before,
-            )
+            .open_in(Order::Number, 5, guest(), Direction::Encrypt, &KEY, &before)
             .unwrap();
         assert_eq!(benches[0], benches[1]);
         benches[1].turn(8).unwrap();
         assert_eq!(benches[1].take(5, guest()), Ok(block));
-        assert_ne!(
-            block,
-            made(&|b| cipher.encrypt_block_in(Order::Words, b))
-        );
+        assert_ne!(block, made(&|b| cipher.encrypt_block_in(Order::Words, b)));
     }
 }
 
@@ -153,14 +145,29 @@ fn the_order_is_refused_first() {
             calls::open_lane_in(order, &mut lanes, 15, 0, 7, direction, key, block)
         };
         assert_eq!(open(2, &[7; 15], &[9; 15]), Err(BadDirection));
-        assert_eq!(
-            open(1, &[7; 15], &[9; 15]),
-            good(order, Err(BadKeyLength))
-        );
+        assert_eq!(open(1, &[7; 15], &[9; 15]), good(order, Err(BadKeyLength)));
         assert_eq!(
             open(1, &[7; 16], &[9; 15]),
             good(order, Err(BadBlockLength))
         );
         assert_eq!(lanes, [Lane::FRESH; 16]);
+    }
+}
+
+/// Every number in a record that is no order's, where the record is else sound; and in an idle one, where order 1 is none.
+#[test]
+fn records_of_no_order() {
+    let mut bench = Bench::new();
+    bench
+        .open_in(Order::Words, 2, guest(), Direction::Encrypt, &KEY, &KEY)
+        .unwrap();
+    bench.turn(3).unwrap();
+    for (lane, last) in [(2, 1), (5, 0)] {
+        for order in 0..=u16::MAX {
+            let mut records = *bench.records();
+            records[lane].count = u32::from(records[lane].turns()) | u32::from(order) << 16;
+            let asked = Bench::from_records(records, bench.last_served()).turn(0);
+            assert_eq!(asked.is_ok(), order <= last, "lane {lane}, order {order}");
+        }
     }
 }

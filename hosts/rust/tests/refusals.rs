@@ -273,28 +273,12 @@ fn unsound_benches() {
         lane != Lane::FRESH
             && (lane.owner == 0
                 || lane.direction > 1
-                || lane.order > 1
                 || !matches!((lane.phase, lane.count), (1, 0..=7) | (2, 8)))
     };
     let mut refusals = 0;
     for phase in [0, 1, 2, 3, 255] {
         for (direction, owner) in [(0, 1), (1, 65535), (2, 1), (255, 1), (0, 0), (1, 256)] {
-            for (count, order) in [
-                (0, 0),
-                (0, 1),
-                (1, 1),
-                (7, 2),
-                (7, 0),
-                (8, 1),
-                (8, 256),
-                (9, 0),
-                (255, 0),
-                (256, 1),
-                (263, 0),
-                (264, 1),
-                (u16::MAX, 0),
-                (8, u16::MAX),
-            ] {
+            for count in [0, 1, 7, 8, 9, 255, 256, 263, 264, 131080, u32::MAX] {
                 for place in 0..Bench::LANES as usize {
                     let mut lanes = *some_bench().records();
                     lanes[place] = Lane {
@@ -302,7 +286,6 @@ fn unsound_benches() {
                         direction,
                         owner,
                         count,
-                        order,
                         ..lanes[place]
                     };
                     let bench = Bench::from_records(lanes, 1);
@@ -383,12 +366,9 @@ fn idle_records_are_all_zero() {
         assert_eq!(refused(&bench, |b| b.close(2, guest(1))), BadBench);
     };
     bits(&|l| l.direction = 1);
-    for bit in 0..16 {
-        bits(&|l| l.owner = 1 << bit);
-        bits(&|l| l.count = 1 << bit);
-        bits(&|l| l.order = 1 << bit);
-    }
+    (0..16).for_each(|bit| bits(&|l| l.owner = 1 << bit));
     for bit in 0..32 {
+        bits(&|l| l.count = 1 << bit);
         (0..80).for_each(|word| bits(&|l| l.words[word] = 1 << bit));
         bits(&|l| l.state.s0 = 1 << bit);
         bits(&|l| l.state.s1 = 1 << bit);
@@ -489,6 +469,6 @@ fn round_words_are_not_told() {
     assert_eq!(format!("{:?}", Gift128::new(&[5; 16])), "Gift128 { ... }");
     assert_eq!(
         format!("{:?}", bench.records()[0]),
-        "Lane { phase: 1, direction: 0, owner: 1, count: 0, order: 0, .. }"
+        "Lane { phase: 1, direction: 0, owner: 1, count: 0, .. }"
     );
 }
