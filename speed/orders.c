@@ -70,7 +70,7 @@ int main(void)
         input[i] = (uint8_t)(i * 7 + i / 256);
     refused = gift_expand(key, sizeof key, words, GIFT_WORDS);
     for (unsigned kind = 0; kind < KINDS; kind++) {
-        uint64_t least[2] = {UINT64_MAX, UINT64_MAX};
+        uint64_t least[2] = {(uint64_t)-1, (uint64_t)-1};
         unsigned blocks = kind >= BLOCKS ? MANY / GIFT_BLOCK_SIZE : ONES;
         for (unsigned pass = 0; pass < (kind >= BLOCKS ? PASSES / 10 : PASSES); pass++)
             for (uint32_t order = 0; order < ORDERS; order++) {

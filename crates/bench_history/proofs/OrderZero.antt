@@ -1,19 +1,23 @@
 -- In order 0, packing and unpacking answer, an opening is numbered, and a lane is opened, stands and yields as it was before there was another order. (Of the block calls
--- `gift128` says it: OrderZero there.)
+-- `gift128` says it: OrderZero there.) And order 1 of every block by it: a block by a key, by eighty words, and what a lane yields.
 use mathlib.Core.Path.{_≡_, refl, ap, _∙_}
-use mathlib.Core.Bool.{Bool, cond, not}
+use mathlib.Core.Bool.{Bool, true, false, cond, not}
 use mathlib.Core.List.{List}
 use Prim.Native.Nat.{ℕ, _-_, _*_}
 use lib.Dec.{eqb, leb, ltb}
 use lib.ListN.{length, take, drop}
 use Rattle.answers.specs.Numbers.{DONE, BAD_KEY_LENGTH, BAD_BLOCK_LENGTH, BAD_LANE, LANE_NOT_IDLE, BAD_DIRECTION, BAD_BENCH, NOT_THE_OWNER}
 use Rattle.answers.specs.Order.{unless}
-use Rattle.published.specs.Bytes.{readBlock, writeBlock}
+use Rattle.published.specs.Bytes.{readBlock, writeBlock, Bytes}
+use Rattle.published.specs.Seen.{seen}
 use Rattle.published.specs.Gift128.{pairsOf, rounds128, unrounds128, encrypted, decrypted}
+use Rattle.published.proofs.Seen.{inward, outward, permuted, order-1-by-0}
 use Rattle.primitives.specs.declared.State.{State}
 use Rattle.primitives.specs.Packed.{blockOf, stateOf}
 use Rattle.packing.specs.Packing.{noWords, packed, unpacked}
-use Rattle.gift128.specs.Calls.{newWords}
+use Rattle.round_words.specs.Arranged.{pairsFrom}
+use Rattle.gift128.specs.Calls.{newWords, roundsBy, roundsOf}
+use Rattle.gift128.proofs.RoundTrip.{rounds-all-lt}
 use Rattle.lane.specs.declared.Lane.{Lane}
 use Rattle.lane.specs.Record.{idle, running, opened, yielded}
 use Rattle.bench.specs.Turning.{laneCount}
@@ -71,3 +75,21 @@ reached-0 direction key block t = refl
 pub answer-0 : (direction : ℕ) (key block : List ℕ) → answer direction 0 key block ≡ cond (eqb direction 0) (encrypted key block) (decrypted key block)
 unfolding answer encrypted decrypted
 answer-0 direction key block = refl
+
+-- ---- order 1 by order 0: the block permuted by one fixed permutation of bits, and what comes of it permuted back
+
+module _ (key words block : List ℕ) (len : length block ≡ 16) (h : Bytes block) where
+  pub by-key-1 : (back : Bool) → seen 1 (roundsOf back key) block ≡ permuted outward (seen 0 (roundsOf back key) (permuted inward block))
+  by-key-1 back = order-1-by-0 (roundsOf back key) (rounds-all-lt back (pairsOf key)) block len h
+
+  pub by-words-1 : (back : Bool) → seen 1 (roundsBy back words) block ≡ permuted outward (seen 0 (roundsBy back words) (permuted inward block))
+  by-words-1 back = order-1-by-0 (roundsBy back words) (rounds-all-lt back (pairsFrom 0 words)) block len h
+
+  pub answer-1 : (direction : ℕ) → answer direction 1 key block ≡ permuted outward (answer direction 0 key (permuted inward block))
+  unfolding answer
+  answer-1 direction = go (eqb direction 0)
+    where
+      go : (t : Bool) → cond t (seen 1 (roundsOf false key) block) (seen 1 (roundsOf true key) block)
+          ≡ permuted outward (cond t (seen 0 (roundsOf false key) (permuted inward block)) (seen 0 (roundsOf true key) (permuted inward block)))
+      go true = by-key-1 false
+      go false = by-key-1 true
