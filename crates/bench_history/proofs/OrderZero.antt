@@ -1,6 +1,6 @@
 -- In order 0, packing and unpacking answer, an opening is numbered, and a lane is opened, stands and yields as it was before there was another order. (Of the block calls
 -- `gift128` says it: OrderZero there.) And order 1 of every block by it: a block by a key, by eighty words, and what a lane yields.
-use mathlib.Core.Path.{_≡_, refl, ap, _∙_}
+use mathlib.Core.Path.{_≡_, refl, ap}
 use mathlib.Core.Bool.{Bool, true, false, cond, not}
 use mathlib.Core.List.{List}
 use Prim.Native.Nat.{ℕ, _-_, _*_}

@@ -1,14 +1,14 @@
 -- What packing and unpacking answer for a block in an order, and for any other length or number; for a block, each is the other's inverse.
-use mathlib.Core.Path.{_≡_, sym, ap, _∙_}
+use mathlib.Core.Path.{_≡_, ap, _∙_}
 use mathlib.Core.Bool.{Bool, true, false, cond, _&&_, and-false}
 use mathlib.Core.List.{List}
-use Prim.Native.Nat.{ℕ, _^_, _<_}
+use Prim.Native.Nat.{ℕ}
 use lib.Dec.{eqb}
 use lib.ListN.{length}
 use borrow.Author.Tests.{eq-eqb, ne-eqb}
 use Rattle.bits.proofs.Truth.{together}
 use Rattle.published.specs.Bytes.{Bytes}
-use Rattle.published.specs.Seen.{Order, isOrder, readIn, writeIn}
+use Rattle.published.specs.Seen.{isOrder, readIn, writeIn}
 use Rattle.published.proofs.Seen.{orders}
 use Rattle.primitives.specs.declared.State.{State}
 use Rattle.primitives.specs.Packed.{blockOf, stateOf, Words}

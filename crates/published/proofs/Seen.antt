@@ -9,7 +9,7 @@ use Rattle.bits.specs.Digit.{bit, ofBits}
 use Rattle.bits.proofs.Bits.{bit-ofBits, bit-ext, ofBits-lt}
 use Rattle.bits.proofs.Computed.{agree, bounded}
 use Rattle.published.specs.Bytes.{fromBytes, toBytes, Bytes}
-use Rattle.published.specs.Packing.{word, fromWords}
+use Rattle.published.specs.Packing.{word}
 use Rattle.published.specs.Seen.{Order, wordAt, readWords, writeWords, readIn, writeIn, seen}
 use Rattle.published.proofs.Reading.{length-toBytes, from-to, to-from, fromBytes-lt, bit-fromBytes, no-bytes, bytes-toBytes, bytes-append}
 use Rattle.published.proofs.Listed.{each}

@@ -1,5 +1,5 @@
 -- `packing::from_number` reads the halves, gathers their bits and takes the words from them.
-use mathlib.Core.Path.{_≡_, sym, ap, ap₂, _∙_}
+use mathlib.Core.Path.{_≡_, ap, ap₂, _∙_}
 use mathlib.Core.List.{List}
 use Prim.Native.Nat.{ℕ}
 use lib.Dec.{T, ltb, lit<}

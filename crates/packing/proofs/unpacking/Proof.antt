@@ -1,6 +1,5 @@
 -- `packing::unpacking` writes sixteen bytes as their order has them, and nothing else.
 use mathlib.Core.Path.{refl, sym, ap, _∙_}
-use mathlib.Core.List.{List}
 use Prim.Native.Nat.{ℕ}
 use native.Mathlib.Omega.{arith}
 use borrow.Author.Needs.{needs}
