@@ -32,7 +32,7 @@
 extern "C" {
 #endif
 
-#define GIFT_HOST_EDITION 4 /* of this header */
+#define GIFT_HOST_EDITION 5 /* of this header */
 
 /* The edition of the library that is linked. */
 uint32_t gift_host_edition(void);
@@ -56,33 +56,39 @@ uint32_t gift_host_edition(void);
 #define GIFT_BAD_STATE 10        /* the same number: a gift_mac_state that claims more than 16 held bytes, or a gift_stream more than 15 unused ones */
 #define GIFT_NOT_THE_OWNER 11    /* opening with owner 0; taking from or closing a busy lane with another number than its owner's */
 #define GIFT_TOO_FEW_COUNTERS 12 /* a piece needs more counters than the stream has left */
+#define GIFT_BAD_ORDER 13        /* an order that is neither 0 nor 1 */
+
+/* The orders: how the sixteen bytes of a block are seen as its 128 bits, and these as bytes again. In either, the rounds and the key
+ * are the same, and bit i of word j (gift_state) is bit 4i+j of the block. What the library did before edition 5 is order 0. */
+#define GIFT_ORDER_NUMBER 0 /* one number, the first byte the most significant: the GIFT paper */
+#define GIFT_ORDER_WORDS 1  /* word j is bytes 4j to 4j+3, the most significant first: GIFT-COFB */
 
 /* ---- one block, in place ---- */
 
-/* By a key. Refusals: 1, 2. */
-uint32_t gift_encrypt_by_key(const uint8_t *key, size_t key_len, uint8_t *block, size_t block_len);
-uint32_t gift_decrypt_by_key(const uint8_t *key, size_t key_len, uint8_t *block, size_t block_len);
+/* By a key, in an order. Refusals: 13, 1, 2. */
+uint32_t gift_encrypt_by_key(uint32_t order, const uint8_t *key, size_t key_len, uint8_t *block, size_t block_len);
+uint32_t gift_decrypt_by_key(uint32_t order, const uint8_t *key, size_t key_len, uint8_t *block, size_t block_len);
 
 /* The same by the plain engine, which does document 01's steps one by one on 32 nibbles: for an auditor to read, and for a host
- * that holds one engine to the other. The two are proved to give the same number and bytes, whatever is lent. It takes some 28
+ * that holds one engine to the other. It knows order 0 alone; there the two are proved to give the same number and bytes, whatever is lent. It takes some 28
  * times as long as gift_encrypt_by_key, and 35 times as long as gift_decrypt_by_key (one block, x86-64, the kit's clang 22 at
  * -O3, by speed/bench). Refusals: 1, 2. */
 uint32_t gift_plain_encrypt_by_key(const uint8_t *key, size_t key_len, uint8_t *block, size_t block_len);
 uint32_t gift_plain_decrypt_by_key(const uint8_t *key, size_t key_len, uint8_t *block, size_t block_len);
 
-/* By 80 round words: those of gift_expand, which saves expanding the key for every block, or any others. Refusals: 4, 2. */
-uint32_t gift_encrypt_by_words(const uint32_t *words, size_t words_len, uint8_t *block, size_t block_len);
-uint32_t gift_decrypt_by_words(const uint32_t *words, size_t words_len, uint8_t *block, size_t block_len);
+/* By 80 round words: those of gift_expand, which saves expanding the key for every block, or any others. Refusals: 13, 4, 2. */
+uint32_t gift_encrypt_by_words(uint32_t order, const uint32_t *words, size_t words_len, uint8_t *block, size_t block_len);
+uint32_t gift_decrypt_by_words(uint32_t order, const uint32_t *words, size_t words_len, uint8_t *block, size_t block_len);
 
 /* Fills words with the 80 round words of a key. Refusals: 1, 4. */
 uint32_t gift_expand(const uint8_t *key, size_t key_len, uint32_t *words, size_t words_len);
 
 /* ---- many blocks, from one buffer to another ---- */
 
-/* Block n of the output from block n of the input, each by itself. Length 0 is done and writes nothing. Refusals: 1, 2, 3. */
-uint32_t gift_encrypt_blocks(const uint8_t *key, size_t key_len, const uint8_t *input, size_t input_len,
+/* Block n of the output from block n of the input, each by itself. Length 0 is done and writes nothing. Refusals: 13, 1, 2, 3. */
+uint32_t gift_encrypt_blocks(uint32_t order, const uint8_t *key, size_t key_len, const uint8_t *input, size_t input_len,
                              uint8_t *output, size_t output_len);
-uint32_t gift_decrypt_blocks(const uint8_t *key, size_t key_len, const uint8_t *input, size_t input_len,
+uint32_t gift_decrypt_blocks(uint32_t order, const uint8_t *key, size_t key_len, const uint8_t *input, size_t input_len,
                              uint8_t *output, size_t output_len);
 
 /* ---- the bench: sixteen lanes that take turns ----
@@ -105,8 +111,8 @@ uint32_t gift_decrypt_blocks(const uint8_t *key, size_t key_len, const uint8_t *
  * bytes of other guests, every number given back and every turn told is the same, and so is what stands in the guest's own
  * take buffers. (The records themselves are the host's, and are not to be shown to guests.)
  *
- * A record is sound if it is all zero, which is idle, or if its owner is not 0, its direction is 0 or 1 and it is running
- * with count 0 to 7 or finished with count 8. Every call looks at all of every record and refuses with 10 if one is not
+ * A record is sound if it is all zero, which is idle, or if its owner is not 0, its direction and its order are 0 or 1 and it is
+ * running with count 0 to 7 or finished with count 8. Every call looks at all of every record and refuses with 10 if one is not
  * sound; none repairs it. A take and a close leave the record all zero: no round word or block stays in it. What a call
  * itself had on the stack or in registers is not wiped: the round words of a lane that was opened or turned may lie below
  * the caller's frame until something else is written there.
@@ -124,7 +130,7 @@ uint32_t gift_decrypt_blocks(const uint8_t *key, size_t key_len, const uint8_t *
 #define GIFT_RUNNING 1
 #define GIFT_FINISHED 2
 
-/* A block's four words: bit i of word j is bit 4i+j of the block, whose first byte is the most significant. */
+/* A block's four words: bit i of word j is bit 4i+j of the block. */
 typedef struct gift_state {
     uint32_t s0, s1, s2, s3;
 } gift_state;
@@ -134,7 +140,8 @@ typedef struct gift_lane {
     uint8_t phase;              /* at 0: GIFT_IDLE, GIFT_RUNNING or GIFT_FINISHED */
     uint8_t direction;          /* at 1: GIFT_ENCRYPT or GIFT_DECRYPT */
     uint16_t owner;             /* at 2: the guest that opened it */
-    uint32_t count;             /* at 4: its own turns since it was opened */
+    uint16_t count;             /* at 4: its own turns since it was opened */
+    uint16_t order;             /* at 6: GIFT_ORDER_NUMBER or GIFT_ORDER_WORDS: how a take writes its block */
     uint32_t words[GIFT_WORDS]; /* at 8: its round words */
     gift_state state;           /* at 328: its block, as far as it has come */
 } gift_lane;
@@ -146,11 +153,11 @@ typedef struct gift_turns {
     uint32_t last; /* the last served number from now on; the one passed, if no turn was made */
 } gift_turns;
 
-/* Opens an idle lane on a key and a block: it runs from here, with count 0, for the guest whose number is passed as owner.
- * Key and block are not needed after the call: the record holds the key's round words and the block.
- * Refusals: 10, 5, 6, 11, 9, 1, 2. */
+/* Opens an idle lane on a key and a block, which is read in the order passed: it runs from here, with count 0, for the guest
+ * whose number is passed as owner. Key and block are not needed after the call: the record holds the key's round words, the
+ * block and its order. Refusals: 10, 5, 6, 11, 9, 13, 1, 2. */
 uint32_t gift_open_lane(gift_lane *lanes, size_t lanes_len, uint32_t last, uint32_t lane, uint16_t owner,
-                        uint32_t direction, const uint8_t *key, size_t key_len, const uint8_t *block, size_t block_len);
+                        uint32_t direction, uint32_t order, const uint8_t *key, size_t key_len, const uint8_t *block, size_t block_len);
 
 /* Makes as many turns as are asked for, or fewer if no lane runs any more. Each serves the first running lane after the last
  * served one, in cyclic order, by five rounds, and its eighth finishes it. Asking for 0 is done. An opened lane that is not
@@ -158,7 +165,8 @@ uint32_t gift_open_lane(gift_lane *lanes, size_t lanes_len, uint32_t last, uint3
  * the other guests try. Refusals: 10, 8. */
 gift_turns gift_turn(gift_lane *lanes, size_t lanes_len, uint32_t last, uint32_t asked);
 
-/* Writes the 16 bytes of a finished lane to its owner, and its record is all zero afterwards. Refusals: 10, 5, 11, 7, 2. */
+/* Writes the 16 bytes of a finished lane, in the order that it was opened in, to its owner, and its record is all zero afterwards.
+ * Refusals: 10, 5, 11, 7, 2. */
 uint32_t gift_take(gift_lane *lanes, size_t lanes_len, uint32_t last, uint32_t lane, uint16_t owner, uint8_t *out,
                    size_t out_len);
 
@@ -281,6 +289,7 @@ GIFT_HOST_HOLDS(sizeof(gift_stream_started) == 364);
 GIFT_HOST_HOLDS(offsetof(gift_lane, direction) == 1);
 GIFT_HOST_HOLDS(offsetof(gift_lane, owner) == 2);
 GIFT_HOST_HOLDS(offsetof(gift_lane, count) == 4);
+GIFT_HOST_HOLDS(offsetof(gift_lane, order) == 6);
 GIFT_HOST_HOLDS(offsetof(gift_lane, words) == 8);
 GIFT_HOST_HOLDS(offsetof(gift_lane, state) == 328);
 GIFT_HOST_HOLDS(offsetof(gift_mac_state, chain) == 320);

@@ -24,7 +24,7 @@ CALLS = 3019
 BIG = 2 ** 32 - 1
 IDLE, RUNNING, FINISHED = range(3)
 GUESTS = [1, 2, 7, 255, 256, 512, 519, 65535]  # 519 and 7 are alike in their low byte
-ORDERS = {"open_lane": [0, 10, 5, 6, 11, 9, 1, 2], "turn": [0, 10, 8], "take": [0, 10, 5, 11, 7, 2], "close": [0, 10, 5, 11]}
+ORDERS = {"open_lane": [0, 10, 5, 6, 11, 9, 13, 1, 2], "turn": [0, 10, 8], "take": [0, 10, 5, 11, 7, 2], "close": [0, 10, 5, 11]}
 FIRST = "# Calls of the bench by value, made by 'oracle/bench_model.py' from document 01."
 
 
@@ -39,17 +39,17 @@ class Lane:
     def idle(self):
         """What a take or a close leaves: nothing (2026-01). The words of the key of zeros are zeros."""
         self.key, self.words = bytes(16), None
-        self.phase = self.direction = self.owner = self.count = self.block = 0
+        self.phase = self.direction = self.owner = self.count = self.order = self.block = 0
 
     def sound(self):
         if self.phase == IDLE:
             return self.idle_sound()
         counts = {RUNNING: range(8), FINISHED: [8]}
-        return self.count in counts.get(self.phase, []) and self.direction in (0, 1) and self.owner != 0
+        return self.count in counts.get(self.phase, []) and self.direction in (0, 1) and self.order in (0, 1) and self.owner != 0
 
     def idle_sound(self):
         """What document 02 asks of a record whose phase is idle (2026-01): that everything in it is zero. This is the one place that says it."""
-        return not any([self.direction, self.owner, self.count, self.block, *(self.key if self.words is None else self.words)])
+        return not any([self.direction, self.owner, self.count, self.order, self.block, *(self.key if self.words is None else self.words)])
 
     def admits(self, caller):
         """Who may take from it and close it: anyone if it is idle, its owner if it is busy (2026-06)."""
@@ -73,7 +73,7 @@ class Lane:
         else:
             words = "key", self.key.hex()
         state = "".join("%08x" % w for w in packed(self.block))
-        every = [("phase", "%x" % self.phase), ("direction", "%x" % self.direction), ("owner", "%x" % self.owner), ("count", "%x" % self.count), words, ("state", state)]
+        every = [("phase", "%x" % self.phase), ("direction", "%x" % self.direction), ("owner", "%x" % self.owner), ("count", "%x" % self.count), ("order", "%x" % self.order), words, ("state", state)]
         return {name: digits for name, digits in every if digits.strip("0")}
 
 
@@ -93,20 +93,21 @@ class Bench:
     def unsound(self):
         return self.last >= LANES or not all(l.sound() for l in self.lanes)
 
-    def open(self, lane, owner, direction, key, block):
+    def open(self, lane, owner, direction, order, key, block):
         code = first([
             (10, self.unsound),
             (5, lambda: lane >= LANES),
             (6, lambda: self.lanes[lane].phase != IDLE),
             (11, lambda: owner == 0),
             (9, lambda: direction not in (0, 1)),
+            (13, lambda: order not in (0, 1)),
             (1, lambda: len(key) != 16),
             (2, lambda: len(block) != 16),
         ])
         if code == 0:
             l = self.lanes[lane]
-            l.key, l.words, l.block = key, None, number(block)
-            l.direction, l.owner, l.count, l.phase = direction, owner, 0, RUNNING
+            l.key, l.words, l.block = key, None, number(block, order)
+            l.direction, l.owner, l.count, l.order, l.phase = direction, owner, 0, order, RUNNING
         return code
 
     def turn(self, asked):
@@ -131,7 +132,7 @@ class Bench:
             (2, lambda: len(buffer) != 16),
         ])
         if code == 0:
-            buffer = block(self.lanes[lane].block)
+            buffer = block(self.lanes[lane].block, self.lanes[lane].order)
             self.lanes[lane].idle()
         return code, buffer
 
@@ -202,10 +203,10 @@ class Script:
         held = self.bench.lanes[lane].owner if lane < LANES else 0
         return held or self.random.choice(GUESTS)
 
-    def open(self, lane, direction=0, key=16, block=16, owner=None):
+    def open(self, lane, direction=0, key=16, block=16, owner=None, order=0):
         key, block, owner = self.some(key), self.some(block), self.random.choice(GUESTS) if owner is None else owner
-        fields = {"lane": "%x" % lane, "owner": "%x" % owner, "direction": "%x" % direction, "key": key.hex(), "block": block.hex()}
-        return self.write("open_lane", fields, self.bench.open(lane, owner, direction, key, block))
+        fields = {"lane": "%x" % lane, "owner": "%x" % owner, "direction": "%x" % direction, **({"order": "%x" % order} if order else {}), "key": key.hex(), "block": block.hex()}
+        return self.write("open_lane", fields, self.bench.open(lane, owner, direction, order, key, block))
 
     def turn(self, asked):
         code, made = self.bench.turn(asked)
@@ -249,13 +250,15 @@ class Script:
     def any_length(self):
         return 16 if self.random.random() < 0.85 else self.random.choice([0, 15, 17])
 
-    def any_call(self):
+    def any_call(self, orders=False):
+        """Openings are in order 0, or in any."""
         r = self.random
         kind = r.choices(["open", "turn", "take", "close"], [35, 30, 27, 8])[0]
         stranger = r.choice([0, *GUESTS]) if r.random() < 0.12 else None
         if kind == "open":
             direction = r.choice([0, 1]) if r.random() < 0.88 else r.choice([2, 3, 256, 257, BIG])
-            self.open(self.any_lane(IDLE), direction, self.any_length(), self.any_length(), stranger)
+            order = 0 if not orders else r.choice([0, 1, 1]) if r.random() < 0.88 else r.choice([2, 3, 256, 257, 65536, 65537, BIG])
+            self.open(self.any_lane(IDLE), direction, self.any_length(), self.any_length(), stranger, order)
         elif kind == "turn":
             self.turn(r.choice([0, 1, 1, 2, 3, 3, 7, 7, 8, 8, 15, 31, 32, 8 * LANES - 1, 8 * LANES, 100, 1023, 1024, 1025, 1026, 65536, 2 ** 31, BIG]))
         elif kind == "take":
@@ -347,7 +350,7 @@ class Script:
     def wide_counts(self):
         """Counts that are sound but for their higher bytes: every call gives 10."""
         self.heading("a count of more than eight bits not sound, put by the host")
-        for n, record in enumerate([(IDLE, 0, 256), (RUNNING, 0, 256), (RUNNING, 1, 263), (FINISHED, 0, 264), (FINISHED, 1, 8 << 8), (RUNNING, 0, 65535), (RUNNING, 0, 65539), (FINISHED, 0, 8 << 16), (RUNNING, 1, BIG)]):
+        for n, record in enumerate([(IDLE, 0, 256), (RUNNING, 0, 256), (RUNNING, 1, 263), (FINISHED, 0, 264), (FINISHED, 1, 8 << 8), (RUNNING, 0, 65535), (RUNNING, 0, 32771), (FINISHED, 0, 8 << 12), (RUNNING, 1, 65535)]):
             records = [self.any_record() for _ in range(LANES)]
             records[n % LANES] = record
             self.put(records, n % LANES, n % LANES, n % LANES)
@@ -356,12 +359,12 @@ class Script:
         self.fresh()
 
     def idle_records(self):
-        """An idle record with one thing in it: one bit in its direction, its count, a word of its state or one of the eighty, or words of no key. Every call gives 10."""
+        """An idle record with one thing in it: one bit in its direction, its count, its order, a word of its state or one of the eighty, or words of no key. Every call gives 10."""
         self.heading("an idle record with one thing in it, put by the host")
         bit = lambda width: 1 << self.random.randrange(width)
         some = lambda places: [bit(32) if i in places else 0 for i in range(80)]
         changes = [("words", some([i])) for i in range(80)] + [("words", some(range(80))), ("key", self.some(16))]
-        changes += [("block", 1 << 4 * self.random.randrange(32) + j) for j in range(4)] + [("direction", bit(8)), ("owner", bit(8)), ("owner", bit(8) << 8), ("count", bit(8)), ("count", bit(8) << 8), ("count", bit(16) << 16)]
+        changes += [("block", 1 << 4 * self.random.randrange(32) + j) for j in range(4)] + [("direction", bit(8)), ("owner", bit(8)), ("owner", bit(8) << 8), ("count", bit(8)), ("count", bit(8) << 8), ("order", bit(16))]
         for k, change in enumerate(changes):
             n, other = k % LANES, (k + 1) % LANES
             calls = [lambda: self.turn(8)[0], lambda: self.open(n), lambda: self.close(n), lambda: self.take(other)]
@@ -413,6 +416,37 @@ class Script:
         assert self.close(0) == 0
         self.fresh()
 
+    def orders(self):
+        """Lanes in either order side by side, each way: turns do not look at it, and a take writes by the lane's own. A number that is no order's refused after the
+        direction's 9 and before the key's 1; records with one, and idle ones with order 1, not sound. Then calls by chance."""
+        self.heading("lanes in both orders")
+        for order in (2, 3, 255, 256, 257, 65536, 65537, 2 ** 31, BIG):
+            assert [self.open(0, 2, 15, 15, order=order), self.open(0, 1, 15, 15, order=order), self.open(0, order=order)] == [9, 13, 13]
+        assert [self.open(0, 1, 15, 15, order=1), self.open(0, 1, 16, 15, order=1), self.open(0, 1, 16, 15, 0, 2)] == [1, 2, 11]
+        for first in (0, 1):
+            assert [self.open(n, n // 2 % 2, order=(n + first) % 2) for n in range(LANES)] == [0] * LANES
+            assert self.open(0, 2, 15, 15, order=2) == 6 and self.open(LANES, 2, 15, 15, 0, 2) == 5
+            self.turn(8 * LANES)
+            assert [self.take(n) for n in range(LANES)] == [0] * LANES
+        for phase, count, order in (IDLE, 0, 1), (IDLE, 0, 256), (RUNNING, 3, 2), (RUNNING, 0, 256), (RUNNING, 7, 257), (FINISHED, 8, 2), (FINISHED, 8, 65535):
+            self.fresh()
+            l = self.bench.lanes[5 % LANES]
+            l.phase, l.count, l.order, l.owner = phase, count, order, 0 if phase == IDLE else 7
+            self.write("put", {})
+            assert [self.open(0, order=order), self.turn(1)[0], self.take(5 % LANES), self.close(5 % LANES)] == [10] * 4
+        for phase, count, order in (RUNNING, 0, 1), (RUNNING, 5, 1), (FINISHED, 8, 1):
+            self.fresh()
+            l = self.bench.lanes[5 % LANES]
+            l.phase, l.count, l.order, l.owner, l.block, l.key = phase, count, order, 7, number(self.some(16)), self.some(16)
+            self.write("put", {})
+            assert self.turn(100) == (0, 8 - count) and self.take(5 % LANES) == 0
+        self.fresh()
+        self.heading("calls by chance, in both orders")
+        until = self.calls() + 600
+        while self.calls() < until:
+            self.any_call(True)
+        self.fresh()
+
 
 # ---- cases that are wrong
 
@@ -427,7 +461,7 @@ def wrong_cases(cases):
         tries = []
         for n, told in enumerate(after):
             words = "key" if plain or "key" in told else "words"
-            tries += [(after[:n] + [damaged(told, name)] + after[n + 1:], gives) for name in ("phase", "direction", "owner", "count", words, "state")]
+            tries += [(after[:n] + [damaged(told, name)] + after[n + 1:], gives) for name in ("phase", "direction", "owner", "count", "order", words, "state")]
         tries += [(after, damaged(gives, name)) for name in gives]
         for records, given in tries:
             yield from (record(n, r) for n, r in enumerate(before))
@@ -446,6 +480,7 @@ def main():
     script.idle_records()
     script.wiped_lanes()
     script.owners()
+    script.orders()
     if sys.argv[1:] == ["--wrong"]:
         print("\n".join(wrong_cases(script.cases)))
         return

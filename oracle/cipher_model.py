@@ -51,26 +51,38 @@ def packed(x):
     return [sum(bit(x, 4 * i + j) << i for i in range(32)) for j in range(4)]
 
 
-def number(block):
-    return int.from_bytes(block, "big")
+def number(block, order=0):
+    """The block that sixteen bytes are. In order 0 they are one number, in order 1 four words, word j of bytes 4j to 4j+3 (2026-09)."""
+    if order == 0:
+        return int.from_bytes(block, "big")
+    words = [int.from_bytes(block[4 * j:4 * j + 4], "big") for j in range(4)]
+    return sum(bit(words[j], i) << 4 * i + j for i in range(32) for j in range(4))
 
 
-def block(x):
-    return x.to_bytes(16, "big")
+def block(x, order=0):
+    if order == 0:
+        return x.to_bytes(16, "big")
+    return b"".join(word.to_bytes(4, "big") for word in packed(x))
 
 
-def encrypted(key, plain, rounds=40):
-    x = number(plain)
-    for mask in rounds_of(key)[:rounds]:
+def done(x, masks):
+    for mask in masks:
         x = round_done(x, mask)
-    return block(x)
+    return x
 
 
-def decrypted(key, secret):
-    x = number(secret)
-    for mask in reversed(rounds_of(key)):
+def undone(x, masks):
+    for mask in reversed(masks):
         x = round_undone(x, mask)
-    return block(x)
+    return x
+
+
+def encrypted(key, plain, rounds=40, order=0):
+    return block(done(number(plain, order), rounds_of(key)[:rounds]), order)
+
+
+def decrypted(key, secret, order=0):
+    return block(undone(number(secret, order), rounds_of(key)), order)
 
 
 def checked():

@@ -24,10 +24,10 @@ static uint32_t code, made;
 
 /* ---- the calls, each through a pointer, so that a function that does nothing can stand in its place */
 
-static uint32_t no_open(gift_lane *l, size_t n, uint32_t last_served, uint32_t lane, uint16_t owner, uint32_t direction, const uint8_t *k, size_t k_len, const uint8_t *b,
-                        size_t b_len)
+static uint32_t no_open(gift_lane *l, size_t n, uint32_t last_served, uint32_t lane, uint16_t owner, uint32_t direction, uint32_t order, const uint8_t *k, size_t k_len,
+                        const uint8_t *b, size_t b_len)
 {
-    (void)l, (void)n, (void)last_served, (void)lane, (void)owner, (void)direction, (void)k, (void)k_len, (void)b, (void)b_len;
+    (void)l, (void)n, (void)last_served, (void)lane, (void)owner, (void)direction, (void)order, (void)k, (void)k_len, (void)b, (void)b_len;
     return GIFT_DONE;
 }
 
@@ -59,17 +59,17 @@ static __typeof__(&gift_open_lane) volatile open_call;
 static __typeof__(&gift_turn) volatile turn_call;
 static __typeof__(&gift_take) volatile take_call;
 static __typeof__(&gift_close) volatile close_call;
-static __typeof__(&gift_encrypt_by_key) volatile encrypt_call, decrypt_call;
+static __typeof__(&gift_plain_encrypt_by_key) volatile encrypt_call, decrypt_call;
 
 static void real(void) { open_call = gift_open_lane, turn_call = gift_turn, take_call = gift_take, close_call = gift_close, encrypt_call = gift_plain_encrypt_by_key, decrypt_call = gift_plain_decrypt_by_key; }
 static void unreal(void) { open_call = no_open, turn_call = no_turn, take_call = no_take, close_call = no_close, encrypt_call = decrypt_call = no_block; }
 
 static __typeof__(&gift_close) volatile no_call = no_close;
 static void nothing(void) { code = no_call(lanes, GIFT_LANES, last, 0, OWNER); }
-static void by_words(void) { code = gift_encrypt_by_words(words, GIFT_WORDS, block, sizeof block); }
+static void by_words(void) { code = gift_encrypt_by_words(GIFT_ORDER_NUMBER, words, GIFT_WORDS, block, sizeof block); }
 static void expand(void) { code = gift_expand(key, sizeof key, words, GIFT_WORDS); }
-static void encrypt(void) { code = gift_encrypt_by_key(key, sizeof key, block, sizeof block); }
-static void decrypt(void) { code = gift_decrypt_by_key(key, sizeof key, block, sizeof block); }
+static void encrypt(void) { code = gift_encrypt_by_key(GIFT_ORDER_NUMBER, key, sizeof key, block, sizeof block); }
+static void decrypt(void) { code = gift_decrypt_by_key(GIFT_ORDER_NUMBER, key, sizeof key, block, sizeof block); }
 static void plain_encrypt(void) { code = encrypt_call(key, sizeof key, block, sizeof block); }
 static void plain_decrypt(void) { code = decrypt_call(key, sizeof key, block, sizeof block); }
 
@@ -83,7 +83,7 @@ static void turns(uint32_t asked)
 static void one_turn(void) { turns(1); }
 static void many_turns(void) { turns(MANY); }
 static void too_many_turns(void) { turns(GIFT_MOST_TURNS + 1); }
-static void opening(void) { code = open_call(lanes, GIFT_LANES, last, GIFT_LANES - 1, OWNER, GIFT_ENCRYPT, key, sizeof key, block, sizeof block); }
+static void opening(void) { code = open_call(lanes, GIFT_LANES, last, GIFT_LANES - 1, OWNER, GIFT_ENCRYPT, GIFT_ORDER_NUMBER, key, sizeof key, block, sizeof block); }
 static void taking(void) { code = take_call(lanes, GIFT_LANES, last, GIFT_LANES - 1, OWNER, block, sizeof block); }
 static void closing(void) { code = close_call(lanes, GIFT_LANES, last, GIFT_LANES - 1, OWNER); }
 
@@ -103,7 +103,7 @@ static void keep(uint32_t n, uint32_t asked)
     memset(lanes, 0, sizeof lanes);
     last = GIFT_FRESH_LAST;
     for (uint32_t lane = GIFT_LANES - n; lane < GIFT_LANES; lane++) {
-        code = gift_open_lane(lanes, GIFT_LANES, last, lane, OWNER, lane % 2, key, sizeof key, block, sizeof block);
+        code = gift_open_lane(lanes, GIFT_LANES, last, lane, OWNER, lane % 2, GIFT_ORDER_NUMBER, key, sizeof key, block, sizeof block);
         expect(code, GIFT_DONE, "gift_open_lane");
     }
     for (; asked != 0; asked--) {

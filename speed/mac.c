@@ -22,7 +22,7 @@ static void chained(size_t len, uint8_t *block)
     for (size_t at = 0; at < len; at += GIFT_BLOCK_SIZE) {
         for (unsigned i = 0; i < GIFT_BLOCK_SIZE; i++)
             block[i] ^= message[at + i];
-        gift_encrypt_by_words(words, GIFT_WORDS, block, GIFT_BLOCK_SIZE);
+        gift_encrypt_by_words(GIFT_ORDER_NUMBER, words, GIFT_WORDS, block, GIFT_BLOCK_SIZE);
     }
 }
 

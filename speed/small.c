@@ -30,6 +30,27 @@ static void least(uint64_t *of, uint64_t from)
         *of = took;
 }
 
+/* GIFT-128's calls in order 0, so that both members are called alike. */
+static uint32_t encrypt_128(const uint8_t *k, size_t k_len, uint8_t *b, size_t b_len)
+{
+    return gift_encrypt_by_key(GIFT_ORDER_NUMBER, k, k_len, b, b_len);
+}
+
+static uint32_t decrypt_128(const uint8_t *k, size_t k_len, uint8_t *b, size_t b_len)
+{
+    return gift_decrypt_by_key(GIFT_ORDER_NUMBER, k, k_len, b, b_len);
+}
+
+static uint32_t encrypt_many_128(const uint8_t *k, size_t k_len, const uint8_t *i, size_t i_len, uint8_t *o, size_t o_len)
+{
+    return gift_encrypt_blocks(GIFT_ORDER_NUMBER, k, k_len, i, i_len, o, o_len);
+}
+
+static uint32_t decrypt_many_128(const uint8_t *k, size_t k_len, const uint8_t *i, size_t i_len, uint8_t *o, size_t o_len)
+{
+    return gift_decrypt_blocks(GIFT_ORDER_NUMBER, k, k_len, i, i_len, o, o_len);
+}
+
 static int by_key(one *f, size_t size, uint64_t *of)
 {
     uint64_t from = now();
@@ -61,11 +82,11 @@ int main(void)
     for (unsigned i = 0; i < sizeof key; i++)
         key[i] = (uint8_t)(i * 17);
     for (unsigned pass = 0; pass < PASSES; pass++) {
-        if (!by_key(gift64_encrypt_by_key, 8, &t[0]) || !by_key(gift_encrypt_by_key, 16, &t[1]) || !by_key(gift64_decrypt_by_key, 8, &t[2]) ||
-            !by_key(gift_decrypt_by_key, 16, &t[3]))
+        if (!by_key(gift64_encrypt_by_key, 8, &t[0]) || !by_key(encrypt_128, 16, &t[1]) || !by_key(gift64_decrypt_by_key, 8, &t[2]) ||
+            !by_key(decrypt_128, 16, &t[3]))
             return 1;
-        if (pass % 100 == 0 && (!in_many(gift64_encrypt_blocks, 8, &t[4]) || !in_many(gift_encrypt_blocks, 16, &t[5]) ||
-                                !in_many(gift64_decrypt_blocks, 8, &t[6]) || !in_many(gift_decrypt_blocks, 16, &t[7])))
+        if (pass % 100 == 0 && (!in_many(gift64_encrypt_blocks, 8, &t[4]) || !in_many(encrypt_many_128, 16, &t[5]) ||
+                                !in_many(gift64_decrypt_blocks, 8, &t[6]) || !in_many(decrypt_many_128, 16, &t[7])))
             return 1;
     }
     printf("%-22s %8s %8s %8s\n", "cycles for a block", "GIFT-64", "GIFT-128", "ratio");

@@ -18,7 +18,7 @@ static gift_stream stream, kept;
 
 static int blocks(size_t len)
 {
-    return gift_encrypt_blocks(key, sizeof key, message, len, output, len) == GIFT_DONE;
+    return gift_encrypt_blocks(GIFT_ORDER_NUMBER, key, sizeof key, message, len, output, len) == GIFT_DONE;
 }
 
 /* From its start, so that both have the key to expand. */

@@ -16,8 +16,9 @@
 _Static_assert(GIFT_DONE == 0 && GIFT_BAD_KEY_LENGTH == 1 && GIFT_BAD_BLOCK_LENGTH == 2 && GIFT_BAD_OUTPUT_LENGTH == 3, "0 to 3");
 _Static_assert(GIFT_BAD_WORD_COUNT == 4 && GIFT_BAD_LANE == 5 && GIFT_LANE_NOT_IDLE == 6 && GIFT_LANE_NOT_FINISHED == 7, "4 to 7");
 _Static_assert(GIFT_TOO_MANY_TURNS == 8 && GIFT_BAD_DIRECTION == 9 && GIFT_BAD_BENCH == 10 && GIFT_BAD_STATE == 10, "8 to 10");
-_Static_assert(GIFT_NOT_THE_OWNER == 11 && GIFT_TOO_FEW_COUNTERS == 12, "11, 12");
+_Static_assert(GIFT_NOT_THE_OWNER == 11 && GIFT_TOO_FEW_COUNTERS == 12 && GIFT_BAD_ORDER == 13, "11 to 13");
 _Static_assert(GIFT_IDLE == 0 && GIFT_RUNNING == 1 && GIFT_FINISHED == 2 && GIFT_ENCRYPT == 0 && GIFT_DECRYPT == 1, "phases and directions");
+_Static_assert(GIFT_ORDER_NUMBER == 0 && GIFT_ORDER_WORDS == 1, "orders");
 _Static_assert(GIFT_BLOCK_SIZE == 16 && GIFT_KEY_SIZE == 16 && GIFT_WORDS == 80 && GIFT_LANES == LANES && GIFT_FRESH_LAST == LANES - 1, "sizes");
 _Static_assert(GIFT_MOST_TURNS == 1024 && GIFT_TURNS_OF_A_LANE == 8, "turns");
 _Static_assert(GIFT64_BLOCK_SIZE == 8, "GIFT-64");
@@ -138,7 +139,9 @@ static const char *const names[KINDS] = {
     "gift_plain_encrypt_by_key", "gift_plain_decrypt_by_key", "gift64_plain_encrypt_by_key", "gift64_plain_decrypt_by_key",
 };
 
-static unsigned calls, differences, given[KINDS][13];
+#define NUMBERS 14 /* 0 to 13 */
+
+static unsigned calls, differences, given[KINDS][NUMBERS];
 
 /* Counts a difference, and starts to tell it if there were not many before. */
 static int differs(unsigned kind)
@@ -174,19 +177,21 @@ static void hold(unsigned kind, uint32_t number, uint32_t must)
 
 static room keys, blocks, outputs, words;
 
-/* By either engine, each on the same memory. */
+/* By either engine, each on the same memory; the plain one has order 0 alone. */
 static void by_key(unsigned direction)
 {
     static uint8_t before[ROOM];
-    uint32_t number, must;
+    uint32_t number, must, order = up_to(1);
     lend(&keys, "key", length(16), 1);
     lend(&blocks, "block", length(16), 1);
     memcpy(before, blocks.memory, blocks.all);
-    must = key_number(keys.length, blocks.length);
+    must = in_order(order, key_number(keys.length, blocks.length));
     if (must == 0)
-        model_by_key(direction, expected(&keys), expected(&blocks), expected(&blocks));
-    number = (direction == 0 ? gift_encrypt_by_key : gift_decrypt_by_key)(part(&keys), keys.length, part(&blocks), blocks.length);
+        model_by_key(order, direction, expected(&keys), expected(&blocks), expected(&blocks));
+    number = (direction == 0 ? gift_encrypt_by_key : gift_decrypt_by_key)(order, part(&keys), keys.length, part(&blocks), blocks.length);
     hold(direction == 0 ? ENCRYPT_BY_KEY : DECRYPT_BY_KEY, number, must);
+    if (order != 0)
+        return;
 
     memcpy(blocks.memory, before, blocks.all);
     lent[lent_count++] = &keys;
@@ -197,15 +202,15 @@ static void by_key(unsigned direction)
 
 static void by_words(unsigned direction)
 {
-    uint32_t number, must, some[80];
+    uint32_t number, must, some[80], order = up_to(1);
     lend(&words, "words", length(80), 4);
     lend(&blocks, "block", length(16), 1);
-    must = words_number(words.length, blocks.length);
+    must = in_order(order, words_number(words.length, blocks.length));
     if (must == 0) {
         memcpy(some, expected(&words), sizeof some);
-        model_by_words(direction, some, expected(&blocks), expected(&blocks));
+        model_by_words(order, direction, some, expected(&blocks), expected(&blocks));
     }
-    number = (direction == 0 ? gift_encrypt_by_words : gift_decrypt_by_words)(part(&words), words.length, part(&blocks), blocks.length);
+    number = (direction == 0 ? gift_encrypt_by_words : gift_decrypt_by_words)(order, part(&words), words.length, part(&blocks), blocks.length);
     hold(direction == 0 ? ENCRYPT_BY_WORDS : DECRYPT_BY_WORDS, number, must);
 }
 
@@ -225,16 +230,16 @@ static void expand(void)
 
 static void many(unsigned direction)
 {
-    uint32_t number, must;
+    uint32_t number, must, order = up_to(1);
     lend(&keys, "key", length(16), 1);
     lend(&blocks, "input", length(16 * below(6)), 1);
     lend(&outputs, "output", length(blocks.length), 1);
-    must = many_number(keys.length, blocks.length, outputs.length);
+    must = in_order(order, many_number(keys.length, blocks.length, outputs.length));
     if (must == 0)
         for (size_t at = 0; at < blocks.length; at += 16)
-            model_by_key(direction, expected(&keys), expected(&blocks) + at, expected(&outputs) + at);
-    number = (direction == 0 ? gift_encrypt_blocks : gift_decrypt_blocks)(part(&keys), keys.length, part(&blocks), blocks.length, part(&outputs),
-                                                                          outputs.length);
+            model_by_key(order, direction, expected(&keys), expected(&blocks) + at, expected(&outputs) + at);
+    number = (direction == 0 ? gift_encrypt_blocks : gift_decrypt_blocks)(order, part(&keys), keys.length, part(&blocks), blocks.length,
+                                                                          part(&outputs), outputs.length);
     hold(direction == 0 ? ENCRYPT_BLOCKS : DECRYPT_BLOCKS, number, must);
 }
 
@@ -244,7 +249,7 @@ static gift_lane records[RECORDS];  /* as the model has them */
 static uint32_t served = LANES - 1; /* the lane last served */
 static int opened[LANES];           /* by gift_open_lane, and not a record of the host's making; */
 static uint8_t promised[LANES][16]; /* then this is what the lane must yield */
-static unsigned made_by_host, unsound, one_bits, slices, lasts, turns_made, yielded, stolen, nobodys;
+static unsigned made_by_host, unsound, one_bits, slices, lasts, turns_made, yielded, stolen, nobodys, in_words;
 
 static room benches;
 
@@ -294,23 +299,27 @@ static gift_lane some_record(void)
     l.phase = (uint8_t)below(3);
     l.direction = (uint8_t)below(2);
     l.owner = some_guest();
-    l.count = l.phase == 1 ? below(8) : 8;
+    l.count = (uint16_t)(l.phase == 1 ? below(8) : 8);
+    l.order = (uint16_t)below(2);
     return l.phase == 0 ? (gift_lane){0} : l;
 }
 
 static void spoil(gift_lane *l)
 {
-    static const uint32_t off[][2] = {
-        {0, 1}, {0, 8}, {0, 255}, {0, 256}, {0, 65280}, {1, 8}, {1, 9}, {1, 256}, {1, 263}, {1, 65535}, {1, 65536}, {2, 0}, {2, 7}, {2, 9}, {2, 264}, {2, 2048}, {2, 65544},
-        {2, 134217728}, {2, 4294967295}, {3, 0}, {3, 8}, {255, 0}, {255, 8},
+    static const uint16_t off[][2] = {
+        {0, 1}, {0, 8}, {0, 255}, {0, 256}, {0, 65280}, {1, 8}, {1, 9}, {1, 256}, {1, 263}, {1, 65535}, {1, 32768}, {2, 0}, {2, 7}, {2, 9}, {2, 264}, {2, 2048}, {2, 32776},
+        {2, 65535}, {3, 0}, {3, 8}, {255, 0}, {255, 8},
     };
     static const uint8_t directions[] = {2, 3, 128, 255};
+    static const uint16_t orders[] = {2, 3, 255, 256, 257, 32768, 65535};
     if (l->phase == 0 && below(4) != 0) {
         /* one bit, in any field or any of the 84 words, makes an idle record unsound */
         uint8_t *byte = (uint8_t *)l + below(sizeof *l);
         *byte |= (uint8_t)(1u << below(8));
     } else if (below(4) == 0) {
         l->direction = directions[below(sizeof directions)];
+    } else if (below(4) == 0) {
+        l->order = orders[below(sizeof orders / sizeof *orders)];
     } else if (below(4) == 0 && l->phase != 0) {
         l->owner = 0;
     } else {
@@ -322,18 +331,20 @@ static void spoil(gift_lane *l)
 
 static void open_lane(size_t lanes_len, uint32_t last)
 {
-    uint32_t number, must, lane = up_to(LANES - 1), direction = up_to(1);
+    uint32_t number, must, lane = up_to(LANES - 1), direction = up_to(1), order = up_to(1);
     uint16_t owner = bad() ? 0 : some_guest();
     lend(&keys, "key", length(16), 1);
     lend(&blocks, "block", length(16), 1);
-    must = open_number(records, lanes_len, last, lane, owner, direction, keys.length, blocks.length);
+    must = open_number(records, lanes_len, last, lane, owner, direction, order, keys.length, blocks.length);
     if (must == 0) {
-        model_open(&records[lane], owner, direction, expected(&keys), expected(&blocks));
-        model_by_key(direction, expected(&keys), expected(&blocks), promised[lane]);
+        model_open(&records[lane], owner, direction, order, expected(&keys), expected(&blocks));
+        model_by_key(order, direction, expected(&keys), expected(&blocks), promised[lane]);
+        in_words += order;
         opened[lane] = 1;
     }
     store_records(expected(&benches));
-    number = gift_open_lane(part(&benches), lanes_len, last, lane, owner, direction, part(&keys), keys.length, part(&blocks), blocks.length);
+    number = gift_open_lane(part(&benches), lanes_len, last, lane, owner, direction, order, part(&keys), keys.length, part(&blocks),
+                            blocks.length);
     hold(OPEN_LANE, number, must);
     nobodys += must == 11;
 }
@@ -784,15 +795,16 @@ int main(void)
     }
 
     printf("%-22s", "number given back:");
-    for (unsigned number = 0; number <= 12; number++)
+    for (unsigned number = 0; number < NUMBERS; number++)
         printf("%7u", number);
     for (unsigned kind = 0; kind < PLAIN_ENCRYPT; kind++) {
         printf("\n%-22s", names[kind]);
-        for (unsigned number = 0; number <= 12; number++)
+        for (unsigned number = 0; number < NUMBERS; number++)
             printf("%7u", given[kind][number]);
     }
     printf("\n");
     printf("%u turns were made; %u opened lanes yielded what GIFT-128 gives\n", turns_made, yielded);
+    printf("%u lanes were opened in order 1\n", in_words);
     printf("%u takes of finished lanes were thefts, and %u openings nobody's: refused with 11\n", stolen, nobodys);
     printf("%u sound records were the host's; %u calls met an unsound one, %u a slice of another length, %u a last served number that is no lane's\n", made_by_host,
            unsound, slices, lasts);

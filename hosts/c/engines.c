@@ -12,7 +12,7 @@ static int engines_agree(int back, const uint8_t *key, const uint8_t *block, uin
     uint8_t plain[GIFT_BLOCK_SIZE];
     memcpy(answer, block, sizeof plain);
     memcpy(plain, block, sizeof plain);
-    uint32_t code = (back ? gift_decrypt_by_key : gift_encrypt_by_key)(key, GIFT_KEY_SIZE, answer, GIFT_BLOCK_SIZE);
+    uint32_t code = (back ? gift_decrypt_by_key : gift_encrypt_by_key)(GIFT_ORDER_NUMBER, key, GIFT_KEY_SIZE, answer, GIFT_BLOCK_SIZE);
     uint32_t held = (back ? gift_plain_decrypt_by_key : gift_plain_encrypt_by_key)(key, GIFT_KEY_SIZE, plain, GIFT_BLOCK_SIZE);
     return code == held && memcmp(answer, plain, sizeof plain) == 0;
 }

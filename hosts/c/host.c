@@ -29,7 +29,7 @@ static uint16_t owner(uint32_t guest)
 static void decrypt_setting(uint32_t guest, const uint8_t *key, const uint8_t *block)
 {
     uint32_t code = gift_open_lane(lanes, GIFT_LANES, last, guest, owner(guest), GIFT_DECRYPT,
-                                   key, GIFT_KEY_SIZE, block, GIFT_BLOCK_SIZE);
+                                   GIFT_ORDER_NUMBER, key, GIFT_KEY_SIZE, block, GIFT_BLOCK_SIZE);
     if (code != GIFT_DONE)
         refused("gift_open_lane", code);
 }

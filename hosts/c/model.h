@@ -1,4 +1,4 @@
-/* Document 01 as plain C: the published ciphers, the bench, and the number that each call gives back. What abuse.c holds the library to.
+/* Documents 01 and 02 as plain C: the published ciphers, the bench, and the number that each call gives back. What abuse.c holds the library to.
  * It shares nothing with the library but the form of a lane record, and writes document 01's numbers as numbers. */
 #include <stddef.h>
 #include <stdint.h>
@@ -22,20 +22,30 @@ static unsigned P(unsigned i)
     return 4 * (i / 16) + 32 * ((3 * ((i % 16) / 4) + i % 4) % 4) + i % 4;
 }
 
-static bits bits_of_bytes(const uint8_t *bytes)
+/* Which bit of the bytes, counted from the last byte's lowest, is b(q): in order 0 bit q, and in order 1 (2026-09) bit i of word j with q = 4i+j, word j
+ * being bytes 4j to 4j+3, the most significant first. */
+static unsigned place(unsigned order, unsigned q)
+{
+    return order == 0 ? q : 32 * (3 - q % 4) + q / 4;
+}
+
+static bits bits_of_bytes(unsigned order, const uint8_t *bytes)
 {
     bits x;
-    for (unsigned i = 0; i < 128; i++)
-        x.b[i] = bytes[15 - i / 8] >> (i % 8) & 1;
+    for (unsigned q = 0; q < 128; q++) {
+        unsigned i = place(order, q);
+        x.b[q] = bytes[15 - i / 8] >> (i % 8) & 1;
+    }
     return x;
 }
 
-static void bytes_of_bits(bits x, uint8_t *bytes)
+static void bytes_of_bits(unsigned order, bits x, uint8_t *bytes)
 {
-    for (unsigned n = 0; n < 16; n++) {
-        bytes[15 - n] = 0;
-        for (unsigned i = 0; i < 8; i++)
-            bytes[15 - n] |= (uint8_t)(x.b[8 * n + i] << i);
+    for (unsigned n = 0; n < 16; n++)
+        bytes[n] = 0;
+    for (unsigned q = 0; q < 128; q++) {
+        unsigned i = place(order, q);
+        bytes[15 - i / 8] |= (uint8_t)(x.b[q] << (i % 8));
     }
 }
 
@@ -129,13 +139,13 @@ static void pairs_of_key(const uint8_t *key, pair *pairs)
     }
 }
 
-static void model_by_key(unsigned direction, const uint8_t *key, const uint8_t *from, uint8_t *to)
+static void model_by_key(unsigned order, unsigned direction, const uint8_t *key, const uint8_t *from, uint8_t *to)
 {
     pair pairs[40];
-    bits x = bits_of_bytes(from);
+    bits x = bits_of_bytes(order, from);
     pairs_of_key(key, pairs);
     rounds(&x, direction, pairs, 0, 40);
-    bytes_of_bits(x, to);
+    bytes_of_bits(order, x, to);
 }
 
 /* ---- what round words stand for ----
@@ -187,11 +197,11 @@ static void rounds_by_words(bits *x, unsigned direction, const uint32_t *words, 
     rounds(x, direction, pairs, from, count);
 }
 
-static void model_by_words(unsigned direction, const uint32_t *words, const uint8_t *from, uint8_t *to)
+static void model_by_words(unsigned order, unsigned direction, const uint32_t *words, const uint8_t *from, uint8_t *to)
 {
-    bits x = bits_of_bytes(from);
+    bits x = bits_of_bytes(order, from);
     rounds_by_words(&x, direction, words, 0, 40);
-    bytes_of_bits(x, to);
+    bytes_of_bits(order, x, to);
 }
 
 /* ---- packing: bit i of word j is b(4i+j) ---- */
@@ -217,14 +227,15 @@ static bits unpacked(gift_state state)
 
 #define LANES 16 /* as document 02 has it, 2026-05 */
 
-static void model_open(gift_lane *lane, uint16_t owner, uint32_t direction, const uint8_t *key, const uint8_t *block)
+static void model_open(gift_lane *lane, uint16_t owner, uint32_t direction, uint32_t order, const uint8_t *key, const uint8_t *block)
 {
     lane->phase = 1;
     lane->owner = owner;
     lane->direction = (uint8_t)direction;
     lane->count = 0;
+    lane->order = (uint16_t)order;
     model_expand(key, lane->words);
-    lane->state = packed(bits_of_bytes(block));
+    lane->state = packed(bits_of_bytes(order, block));
 }
 
 static void model_serve(gift_lane *lane)
@@ -261,11 +272,17 @@ static void model_close(gift_lane *lane)
 
 static void model_take(gift_lane *lane, uint8_t *out)
 {
-    bytes_of_bits(unpacked(lane->state), out);
+    bytes_of_bits(lane->order, unpacked(lane->state), out);
     model_close(lane);
 }
 
 /* ---- the numbers given back, in each call's order ---- */
+
+/* a call that takes an order tries it before its own */
+static uint32_t in_order(uint32_t order, uint32_t own)
+{
+    return order > 1 ? 13 : own;
+}
 
 static uint32_t key_number(size_t key_len, size_t block_len)
 {
@@ -296,7 +313,7 @@ static int sound(const gift_lane *lane)
                 return 0;
         return 1;
     }
-    if (lane->owner == 0 || lane->direction > 1)
+    if (lane->owner == 0 || lane->direction > 1 || lane->order > 1)
         return 0;
     switch (lane->phase) {
     case 1: return lane->count <= 7;
@@ -322,12 +339,12 @@ static uint32_t lane_number(const gift_lane *lanes, size_t lanes_len, uint32_t l
 }
 
 static uint32_t open_number(const gift_lane *lanes, size_t lanes_len, uint32_t last, uint32_t lane, uint16_t owner, uint32_t direction,
-                            size_t key_len, size_t block_len)
+                            uint32_t order, size_t key_len, size_t block_len)
 {
     uint32_t number = lane_number(lanes, lanes_len, last, lane);
     if (number != 0)
         return number;
-    return lanes[lane].phase != 0 ? 6 : owner == 0 ? 11 : direction > 1 ? 9 : key_number(key_len, block_len);
+    return lanes[lane].phase != 0 ? 6 : owner == 0 ? 11 : direction > 1 ? 9 : in_order(order, key_number(key_len, block_len));
 }
 
 static uint32_t turn_number(const gift_lane *lanes, size_t lanes_len, uint32_t last, uint32_t asked)
@@ -364,11 +381,11 @@ static void xor_block(uint8_t *to, const uint8_t *with)
 /* X << 1, with R if the first bit was 1 */
 static void model_subkey(uint8_t *x)
 {
-    bits from = bits_of_bytes(x), to;
+    bits from = bits_of_bytes(0, x), to;
     to.b[0] = 0;
     for (unsigned i = 1; i < 128; i++)
         to.b[i] = from.b[i - 1];
-    bytes_of_bits(to, x);
+    bytes_of_bits(0, to, x);
     if (from.b[127])
         x[15] ^= 0x87;
 }
@@ -385,7 +402,7 @@ static void model_piece(gift_mac_state *s, const uint8_t *bytes, size_t len)
     for (size_t i = 0; i < len; i++) {
         if (s->count == 16) {
             xor_block(s->chain, s->held);
-            model_by_words(0, s->words, s->chain, s->chain);
+            model_by_words(0, 0, s->words, s->chain, s->chain);
             s->count = 0;
         }
         s->held[s->count++] = bytes[i];
@@ -397,7 +414,7 @@ static void model_piece(gift_mac_state *s, const uint8_t *bytes, size_t len)
 static void model_tag(const gift_mac_state *s, uint8_t *tag)
 {
     uint8_t key[16] = {0}, block[16] = {0};
-    model_by_words(0, s->words, key, key);
+    model_by_words(0, 0, s->words, key, key);
     model_subkey(key);
     if (s->count < 16) {
         model_subkey(key);
@@ -407,7 +424,7 @@ static void model_tag(const gift_mac_state *s, uint8_t *tag)
         block[i] = s->held[i];
     xor_block(block, key);
     xor_block(block, s->chain);
-    model_by_words(0, s->words, block, tag);
+    model_by_words(0, 0, s->words, block, tag);
 }
 
 static void model_mac(const uint8_t *key, const uint8_t *message, size_t len, uint8_t *tag)
@@ -449,7 +466,7 @@ static void model_stream_piece(gift_stream *s, const uint8_t *input, size_t len,
         if (s->unused == 0) {
             for (unsigned i = 0; i < 16; i++)
                 s->block[i] = i < 12 ? s->nonce[i] : (uint8_t)(s->counter >> 8 * (15 - i));
-            model_by_words(0, s->words, s->block, s->block);
+            model_by_words(0, 0, s->words, s->block, s->block);
             s->unused = 16;
             if (++s->counter == 0)
                 s->spent = 1;

@@ -8,6 +8,7 @@
 
 #define HISTORIES 1000
 #define CALLS 400 /* of each history */
+#define NUMBERS 14 /* 0 to 13 */
 
 /* ---- numbers at random: splitmix64 ---- */
 
@@ -41,7 +42,7 @@ static const uint16_t guests[] = {1, 2, 257, 512, 65535};
 
 static uint16_t secret; /* the guest whose bytes differ */
 
-static unsigned calls, differences, given[12], other_bytes, own_takes, own_differ, thefts;
+static unsigned calls, differences, given[NUMBERS], other_bytes, own_takes, own_differ, thefts;
 
 static void differs(const char *what)
 {
@@ -52,7 +53,7 @@ static void differs(const char *what)
 static void numbers(uint32_t one, uint32_t two)
 {
     calls++;
-    if (one < 12)
+    if (one < NUMBERS)
         given[one]++;
     if (one != two)
         differs("the number");
@@ -87,13 +88,14 @@ static uint16_t some_guest(void)
 static void open_lane(void)
 {
     static uint8_t key[2][32], block[2][32];
-    uint32_t code[2], lane = lane_number(), direction = below(32) == 0 ? 2 + below(3) : below(2);
+    uint32_t code[2], lane = lane_number(), direction = below(32) == 0 ? 2 + below(3) : below(2), order = below(32) == 0 ? 2 + below(3) : below(2);
     uint16_t owner = some_guest();
     size_t key_len = length(), block_len = length();
     fill(key, owner);
     fill(block, owner);
     for (unsigned t = 0; t < 2; t++)
-        code[t] = gift_open_lane(twin[t].lanes, GIFT_LANES, twin[t].last, lane, owner, direction, key[t], key_len, block[t], block_len);
+        code[t] = gift_open_lane(twin[t].lanes, GIFT_LANES, twin[t].last, lane, owner, direction, order, key[t], key_len, block[t],
+                                 block_len);
     numbers(code[0], code[1]);
 }
 
@@ -167,8 +169,8 @@ int main(void)
             }
     }
     printf("number given back:");
-    for (unsigned number = 0; number < 12; number++)
-        printf(" %u: %u%s", number, given[number], number < 11 ? "," : "\n");
+    for (unsigned number = 0; number < NUMBERS; number++)
+        printf(" %u: %u%s", number, given[number], number < NUMBERS - 1 ? "," : "\n");
     printf("%u takes by the other guests were done, and their bytes are the same in both histories\n", other_bytes);
     printf("%u takes by the guest whose bytes differ were done, and %u of them gave different bytes\n", own_takes, own_differ);
     printf("%u takes of its finished lanes by others were refused with 11\n", thefts);

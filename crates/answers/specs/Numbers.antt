@@ -43,3 +43,6 @@ NOT_THE_OWNER = 11
 
 abbrev pub TOO_FEW_COUNTERS : ℕ
 TOO_FEW_COUNTERS = 12
+
+abbrev pub BAD_ORDER : ℕ
+BAD_ORDER = 13

@@ -39,3 +39,6 @@ pub const NOT_THE_OWNER: u32 = 11;
 
 // A piece needs more counters than the stream has left.
 pub const TOO_FEW_COUNTERS: u32 = 12;
+
+// The order's number is neither 0 nor 1.
+pub const BAD_ORDER: u32 = 13;

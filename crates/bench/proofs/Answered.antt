@@ -34,15 +34,15 @@ module _ (number most : ℕ) (new old : Bench) {r : ℕ} (told : r ≡ number) w
       λ i. record { code = told i; made = (m ∙ sym (if-done number most 0 h)) i; bench = (e ∙ sym (if-done number new old h)) i }
 
 module _ (b : Bench) {s : Bool} (sound : s ≡ soundBench b) {r : ℕ} where
-  module _ (lane owner direction : ℕ) (key block : List ℕ) {p : ℕ} (phase : p ≡ laneAt (b .lanes) lane .phase) (code : r ≡ openCode s lane p owner direction (length key) (length block)) where
-    open-told : r ≡ openCode (soundBench b) lane (laneAt (b .lanes) lane .phase) owner direction (length key) (length block)
-    open-told = code ∙ λ i. openCode (sound i) lane (phase i) owner direction (length key) (length block)
+  module _ (lane owner direction order : ℕ) (key block : List ℕ) {p : ℕ} (phase : p ≡ laneAt (b .lanes) lane .phase) (code : r ≡ openCode s lane p owner direction order (length key) (length block)) where
+    open-told : r ≡ openCode (soundBench b) lane (laneAt (b .lanes) lane .phase) owner direction order (length key) (length block)
+    open-told = code ∙ λ i. openCode (sound i) lane (phase i) owner direction order (length key) (length block)
 
-    pub open-refused : r ≢ 0 → answer r 0 b ≡ openOf b lane owner direction key block
+    pub open-refused : r ≢ 0 → answer r 0 b ≡ openOf b lane owner direction order key block
     unfolding openOf
     open-refused ne = refused _ _ _ _ open-told ne
 
-    pub open-done : r ≡ 0 → {d : Bench} → d ≡ put b lane (opened owner direction key block) → answer r 0 d ≡ openOf b lane owner direction key block
+    pub open-done : r ≡ 0 → {d : Bench} → d ≡ put b lane (opened owner direction order key block) → answer r 0 d ≡ openOf b lane owner direction order key block
     unfolding openOf
     open-done z e = done _ _ _ _ open-told z (λ i. 0) e
 

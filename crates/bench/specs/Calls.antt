@@ -32,10 +32,10 @@ put b i l = record { lanes = set (b .lanes) i l; last = b .last }
 unfoldable pub answered : (number made : ℕ) (new old : Bench) → Answer
 answered number made new old = record { code = number; made = ifDone number made 0; bench = ifDone number new old }
 
-unfoldable pub openOf : Bench → (lane owner direction : ℕ) (key block : List ℕ) → Answer
-openOf b lane owner direction key block =
-    answered (openCode (soundBench b) lane (laneAt (b .lanes) lane .phase) owner direction (length key) (length block)) 0
-    (put b lane (opened owner direction key block)) b
+unfoldable pub openOf : Bench → (lane owner direction order : ℕ) (key block : List ℕ) → Answer
+openOf b lane owner direction order key block =
+    answered (openCode (soundBench b) lane (laneAt (b .lanes) lane .phase) owner direction order (length key) (length block)) 0
+    (put b lane (opened owner direction order key block)) b
 
 unfoldable pub turnOf : Bench → (asked : ℕ) → Answer
 turnOf b asked = answered (turnCode (soundBench b) asked) (min asked (total lacks (b .lanes))) (turnedBy asked b) b

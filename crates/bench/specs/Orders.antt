@@ -3,22 +3,24 @@
 use mathlib.Core.Bool.{Bool, not}
 use Prim.Native.Nat.{ℕ}
 use lib.Dec.{eqb, leb, ltb}
-use Rattle.answers.specs.Numbers.{DONE, BAD_KEY_LENGTH, BAD_BLOCK_LENGTH, BAD_LANE, LANE_NOT_IDLE, LANE_NOT_FINISHED, TOO_MANY_TURNS, BAD_DIRECTION, BAD_BENCH, NOT_THE_OWNER}
+use Rattle.answers.specs.Numbers.{DONE, BAD_KEY_LENGTH, BAD_BLOCK_LENGTH, BAD_LANE, LANE_NOT_IDLE, LANE_NOT_FINISHED, TOO_MANY_TURNS, BAD_DIRECTION, BAD_BENCH, NOT_THE_OWNER, BAD_ORDER}
 use Rattle.answers.specs.Order.{unless}
+use Rattle.published.specs.Seen.{isOrder}
 use Rattle.lane.specs.Record.{idle, finished}
 use Rattle.bench.specs.Turning.{laneCount}
 
--- Opening: 10, 5, 6, 11, 9, 1, 2.
-unfoldable pub openCode : Bool → (lane phase owner direction key block : ℕ) → ℕ
-openCode sound lane phase owner direction key block =
+-- Opening: 10, 5, 6, 11, 9, 13, 1, 2.
+unfoldable pub openCode : Bool → (lane phase owner direction order key block : ℕ) → ℕ
+openCode sound lane phase owner direction order key block =
     unless sound BAD_BENCH
     (unless (ltb lane laneCount) BAD_LANE
     (unless (eqb phase idle) LANE_NOT_IDLE
     (unless (not (eqb owner 0)) NOT_THE_OWNER
     (unless (leb direction 1) BAD_DIRECTION
+    (unless (isOrder order) BAD_ORDER
     (unless (eqb key 16) BAD_KEY_LENGTH
     (unless (eqb block 16) BAD_BLOCK_LENGTH
-    DONE))))))
+    DONE)))))))
 
 -- Turns: 10, 8.
 unfoldable pub turnCode : Bool → (asked : ℕ) → ℕ

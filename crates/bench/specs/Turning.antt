@@ -15,7 +15,7 @@ laneCount = 16
 
 -- lane i of a list of records
 abbrev pub laneAt : List Lane → ℕ → Lane
-laneAt ls i = getD ls i (record { phase = idle; direction = 0; owner = 0; count = 0; words = []; state = noWords })
+laneAt ls i = getD ls i (record { phase = idle; direction = 0; owner = 0; count = 0; order = 0; words = []; state = noWords })
 
 unfoldable pub runs : List Lane → ℕ → Bool
 runs ls i = eqb (laneAt ls i .phase) running

@@ -195,10 +195,11 @@ pub fn open_lane(
     lane: u32,
     owner: u16,
     direction: u32,
+    order: u32,
     key: &[u8],
     block: &[u8],
 ) -> Answer
-    ensures { λ r. ⌜ r ≡ openOf b lane owner direction (now (key .entry)) (now (block .entry)) ⌝ }
+    ensures { λ r. ⌜ r ≡ openOf b lane owner direction order (now (key .entry)) (now (block .entry)) ⌝ }
 {
     let code = open_code(
         sound(b),
@@ -206,6 +207,7 @@ pub fn open_lane(
         phase_at(b, lane),
         owner,
         direction,
+        order,
         key.len(),
         block.len(),
     );
@@ -216,7 +218,8 @@ pub fn open_lane(
             bench: b,
         };
     }
-    let bench = put(b, lane as usize, opened(owner, direction as u8, key, block));
+    let l = opened(owner, direction as u8, order as u16, key, block);
+    let bench = put(b, lane as usize, l);
     Answer {
         code,
         made: 0,

@@ -5,6 +5,7 @@ use answers::BAD_BLOCK_LENGTH;
 use answers::BAD_DIRECTION;
 use answers::BAD_KEY_LENGTH;
 use answers::BAD_LANE;
+use answers::BAD_ORDER;
 use answers::DONE;
 use answers::LANE_NOT_FINISHED;
 use answers::LANE_NOT_IDLE;
@@ -14,23 +15,25 @@ use gift128::Gift128;
 use lane::DECRYPT;
 use lane::FINISHED;
 use lane::IDLE;
+use packing::WORDS;
 ghost use mathlib.Core.Path.{_≡_};
 ghost use Rattle.bench.specs.Orders.{openCode, turnCode, takeCode, closeCode};
 
 // How many turns one call may ask for.
 const MOST_TURNS: u32 = 1024;
 
-// 10, 5, 6, 11, 9, 1, 2.
+// 10, 5, 6, 11, 9, 13, 1, 2.
 pub fn open_code(
     sound: bool,
     lane: u32,
     phase: u8,
     owner: u16,
     direction: u32,
+    order: u32,
     key: usize,
     block: usize,
 ) -> u32
-    ensures { λ r. ⌜ r ≡ openCode sound lane phase owner direction key block ⌝ }
+    ensures { λ r. ⌜ r ≡ openCode sound lane phase owner direction order key block ⌝ }
 {
     if !sound {
         return BAD_BENCH;
@@ -46,6 +49,9 @@ pub fn open_code(
     }
     if (DECRYPT as u32) < direction {
         return BAD_DIRECTION;
+    }
+    if WORDS < order {
+        return BAD_ORDER;
     }
     if key != Gift128::KEY_SIZE {
         return BAD_KEY_LENGTH;

@@ -6,6 +6,7 @@ use mathlib.Core.Logic.{_≢_}
 use Prim.Native.Nat.{ℕ, _≤_, _<_}
 use lib.ListN.{length}
 use Rattle.answers.proofs.Outcome.{if-done, if-refused}
+use Rattle.published.specs.Seen.{isOrder}
 use Rattle.lane.specs.Record.{idle, finished, admits, idleLane, opened}
 use Rattle.bench.specs.declared.Bench.{Bench}
 use Rattle.bench.specs.Turning.{laneCount, laneAt, turnedBy, servedBy}
@@ -19,14 +20,14 @@ use Rattle.bench_history.specs.History.{Call, opening, turning, taking, 
 module _ (b : Bench) where
   pub refused-leaves : (c : Call) → codeOf b c ≢ 0 → leaves b c ≡ b
   unfolding answerTo openOf turnOf takeOf closeOf answered
-  refused-leaves (opening lane owner direction key block) ne = if-refused _ _ b ne
+  refused-leaves (opening lane owner direction order key block) ne = if-refused _ _ b ne
   refused-leaves (turning asked) ne = if-refused _ _ b ne
   refused-leaves (taking lane caller out) ne = if-refused _ _ b ne
   refused-leaves (closing lane caller) ne = if-refused _ _ b ne
 
   pub refused-tells : (c : Call) → codeOf b c ≢ 0 → tells b c ≡ 0
   unfolding answerTo openOf turnOf takeOf closeOf answered
-  refused-tells (opening lane owner direction key block) ne = if-refused _ _ 0 ne
+  refused-tells (opening lane owner direction order key block) ne = if-refused _ _ 0 ne
   refused-tells (turning asked) ne = if-refused _ _ 0 ne
   refused-tells (taking lane caller out) ne = if-refused _ _ 0 ne
   refused-tells (closing lane caller) ne = if-refused _ _ 0 ne
@@ -37,27 +38,29 @@ module _ (b : Bench) where
 
 -- ---- done
 
-pub record OpenDone (b : Bench) (lane owner direction : ℕ) (key block : List ℕ) : Type 0 where
+pub record OpenDone (b : Bench) (lane owner direction order : ℕ) (key block : List ℕ) : Type 0 where
   pub sound : Sound b
   pub lane-lt : lane < laneCount
   pub was-idle : laneAt (b .lanes) lane .phase ≡ idle
   pub owned : owner ≢ 0
   pub direction-le : direction ≤ 1
+  pub ordered : isOrder order ≡ true
   pub key-long : length key ≡ 16
   pub block-long : length block ≡ 16
-  pub left : leaves b (opening lane owner direction key block) ≡ put b lane (opened owner direction key block)
-  pub none : serves b (opening lane owner direction key block) ≡ []
+  pub left : leaves b (opening lane owner direction order key block) ≡ put b lane (opened owner direction order key block)
+  pub none : serves b (opening lane owner direction order key block) ≡ []
 
-pub opens : (b : Bench) (lane owner direction : ℕ) (key block : List ℕ) → codeOf b (opening lane owner direction key block) ≡ 0 → OpenDone b lane owner direction key block
+pub opens : (b : Bench) (lane owner direction order : ℕ) (key block : List ℕ) → codeOf b (opening lane owner direction order key block) ≡ 0 → OpenDone b lane owner direction order key block
 unfolding answerTo openOf answered serves asks servedBy
-opens b lane owner direction key block e =
-    let p = open-passed _ lane _ owner direction (length key) (length block) e in
+opens b lane owner direction order key block e =
+    let p = open-passed _ lane _ owner direction order (length key) (length block) e in
     record {
       sound = is-sound b (p .is-sound);
       lane-lt = p .lane-lt;
       was-idle = p .was-idle;
       owned = p .owned;
       direction-le = p .direction-le;
+      ordered = p .ordered;
       key-long = p .key-long;
       block-long = p .block-long;
       left = if-done _ _ b e;

@@ -11,19 +11,20 @@ use borrow.Author.Tests.{eqb-false, lt-leb, lt-ltb}
 use Rattle.answers.specs.Numbers.{DONE}
 use Rattle.answers.proofs.Outcome.{if-done}
 use Rattle.bits.proofs.Truth.{both, together}
-use Rattle.published.specs.Bytes.{toBytes, Bytes}
-use Rattle.published.proofs.Gift128.{block-lt}
+use Rattle.published.specs.Bytes.{Bytes}
+use Rattle.published.specs.Seen.{writeIn}
+use Rattle.published.proofs.Seen.{orders}
 use Rattle.primitives.specs.Packed.{blockOf}
 use Rattle.lane.specs.declared.Lane.{Lane}
 use Rattle.lane.specs.Record.{idle, running, finished, idleLane, everything, allZero, soundLane, opened, advanced, served, lacks}
-use Rattle.lane.proofs.Records.{next, finished-count, sound-count, eight-finished, yielded-bytes}
+use Rattle.lane.proofs.Records.{tidy, next, finished-count, sound-count, eight-finished, yielded-bytes}
 use Rattle.bench.specs.declared.Bench.{Bench}
 use Rattle.bench.specs.Turning.{laneCount, laneAt}
 use Rattle.bench.specs.Orders.{takeCode}
 use Rattle.bench.specs.Calls.{freshBench, allSound, soundBench, answered, takeOf, takenBytes}
 use Rattle.bench.proofs.Soundness.{Sound, is-sound, says-sound}
 use Rattle.bench_history.specs.History.{Call, opening, turning, taking, closing, answerTo, codeOf, leaves, run, log, times, closes, releases, never, servedTimes}
-use Rattle.bench_history.specs.Promises.{standing, owning, answer, BusyFor, ShutTo, Opening, call, calls, end, finds, left, made, own, Accepted, Unclosed, Kept, Stands, InTime, Held}
+use Rattle.bench_history.specs.Promises.{standing, owning, ordering, answer, BusyFor, ShutTo, Opening, call, calls, end, finds, left, made, own, Accepted, Unclosed, Kept, Stands, InTime, Held}
 use Rattle.bench_history.proofs.Accepted.{OpenDone, opens, takes}
 use Rattle.bench_history.proofs.Touched.{sound-leaves, put-here, Touch, touch, same, entered, left as leaving, served as serving}
 use Rattle.bench_history.proofs.Belongs.{owner-admitted, shut-to, early-take}
@@ -67,7 +68,7 @@ times-take n k is = omega (arith, ap (times n) (take-append-drop k is), times-ap
 -- what is never released is never closed
 closed-released : (n w : ℕ) (b : Bench) (c : Call) → not (releases n w b c) ≡ true → not (closes n w b c) ≡ true
 unfolding closes releases
-closed-released n w b (opening lane owner direction key block) h = h
+closed-released n w b (opening lane owner direction order key block) h = h
 closed-released n w b (turning asked) h = h
 closed-released n w b (taking lane caller out) h = refl
 closed-released n w b (closing lane caller) h = h
@@ -82,16 +83,16 @@ never-closed n w (c ∷ cs) b h =
 -- ---- from an accepted opening on
 
 module _ (o : Opening) (ok : Accepted o) where
-  did : OpenDone (finds o) (o .lane) (o .owner) (o .direction) (o .key) (o .block)
-  did = opens (finds o) (o .lane) (o .owner) (o .direction) (o .key) (o .block) ok
+  did : OpenDone (finds o) (o .lane) (o .owner) (o .direction) (o .order) (o .key) (o .block)
+  did = opens (finds o) (o .lane) (o .owner) (o .direction) (o .order) (o .key) (o .block) ok
 
   left-sound : Sound (left o)
   left-sound = sound-leaves (finds o) (call o) (did .sound)
 
-  left-lane : laneAt (left o .lanes) (o .lane) ≡ opened (o .owner) (o .direction) (o .key) (o .block)
+  left-lane : laneAt (left o .lanes) (o .lane) ≡ opened (o .owner) (o .direction) (o .order) (o .key) (o .block)
   left-lane =
       ap (λ (d : Bench). laneAt (d .lanes) (o .lane)) (did .left)
-      ∙ put-here (finds o) (o .lane) (opened (o .owner) (o .direction) (o .key) (o .block)) (did .sound) (did .lane-lt)
+      ∙ put-here (finds o) (o .lane) (opened (o .owner) (o .direction) (o .order) (o .key) (o .block)) (did .sound) (did .lane-lt)
 
   end-is : end o ≡ run (left o) (o .since)
   unfolding run
@@ -118,7 +119,7 @@ module _ (o : Opening) (ok : Accepted o) where
   in-time still = waits (o .lane) (o .owner) (left o) (o .since) 8 left-sound (did .lane-lt) left-lacks left-owner still
 
   module _ (kept : Kept o) where
-    stood : After (opened (o .owner) (o .direction) (o .key) (o .block)) (own o) (laneAt (end o .lanes) (o .lane))
+    stood : After (opened (o .owner) (o .direction) (o .order) (o .key) (o .block)) (own o) (laneAt (end o .lanes) (o .lane))
     stood = rw (end-is, ← left-lane) (stand (o .lane) (o .owner) (o .since) (left o) left-sound left-busy kept)
 
     -- it is still its owner's, and shut to all others
@@ -139,9 +140,11 @@ module _ (o : Opening) (ok : Accepted o) where
     taken-own caller out e =
         omega (arith, stood .counted, finished-count (laneAt (end o .lanes) (o .lane)) (end-sound .each (o .lane) (did .lane-lt)) (takes (end o) (o .lane) caller out e .was-finished))
 
-    taken-bytes : (caller : ℕ) (out : List ℕ) → takeOf (end o) (o .lane) caller out .code ≡ 0 → takenBytes (end o) (o .lane) caller out ≡ toBytes 16 (blockOf (laneAt (end o .lanes) (o .lane) .state))
+    taken-bytes : (caller : ℕ) (out : List ℕ) → takeOf (end o) (o .lane) caller out .code ≡ 0 → takenBytes (end o) (o .lane) caller out ≡ writeIn (laneAt (end o .lanes) (o .lane) .order) (blockOf (laneAt (end o .lanes) (o .lane) .state))
     unfolding takenBytes answerTo
-    taken-bytes caller out e = if-done _ _ out e ∙ yielded-bytes (laneAt (end o .lanes) (o .lane)) out (takes (end o) (o .lane) caller out e .out-long)
+    taken-bytes caller out e =
+        let l : Lane = laneAt (end o .lanes) (o .lane) in
+        if-done _ _ out e ∙ yielded-bytes l out (tidy l (end-sound .each (o .lane) (did .lane-lt)) (end-busy .busy) .ordered) (takes (end o) (o .lane) caller out e .out-long)
 
     -- a lane that was not released was not closed
     unclosed : Unclosed o
@@ -155,10 +158,10 @@ module _ (o : Opening) (ok : Accepted o) where
         (omega (arith, stood .counted, at-most, in-time unclosed h, times-take (o .lane) (laneCount * 8) (made o)))
 
     module _ (bytes : Bytes (o .block)) where
-      here : laneAt (end o .lanes) (o .lane) ≡ standing (o .owner) (o .direction) (o .key) (o .block) (own o)
+      here : laneAt (end o .lanes) (o .lane) ≡ standing (o .owner) (o .direction) (o .order) (o .key) (o .block) (own o)
       here =
           stood .is
-          ∙ reach (o .owner) (o .direction) (o .key) (o .block) (block-lt (o .block) (did .block-long) bytes) (did .key-long) (did .block-long) (own o) at-most
+          ∙ reach (o .owner) (o .direction) (o .order) (o .key) (o .block) (orders (o .order) .block (o .block) (did .block-long) bytes) (did .ordered) (did .key-long) (did .block-long) (own o) at-most
 
       phase-is : laneAt (end o .lanes) (o .lane) .phase ≡ cond (leb 8 (own o)) finished running
       unfolding standing
@@ -173,10 +176,10 @@ module _ (o : Opening) (ok : Accepted o) where
         ready-code h e =
             rw (says-sound (end o) end-sound, lt-ltb (o .lane) laneCount (did .lane-lt), owner-admitted (o .owner) (laneAt (end o .lanes) (o .lane)) end-busy, phase-is, h, e)
 
-        ready-bytes : own o ≡ 8 → length out ≡ 16 → takenBytes (end o) (o .lane) (o .owner) out ≡ answer (o .direction) (o .key) (o .block)
+        ready-bytes : own o ≡ 8 → length out ≡ 16 → takenBytes (end o) (o .lane) (o .owner) out ≡ answer (o .direction) (o .order) (o .key) (o .block)
         unfolding standing
         ready-bytes h e =
-            taken-bytes (o .owner) out (ready-code h e) ∙ (rw (here, h) (yields (o .owner) (o .direction) (o .key) (o .block) (block-lt (o .block) (did .block-long) bytes)))
+            taken-bytes (o .owner) out (ready-code h e) ∙ (rw (here, h) (yields (o .owner) (o .direction) (o .order) (o .key) (o .block) (orders (o .order) .block (o .block) (did .block-long) bytes)))
 
       -- where the lane stands, and what it yields
       pub stands : Stands o
@@ -205,13 +208,27 @@ unfolding servedTimes
 times-owning zero w l = refl
 times-owning (suc t) w l = ap served (times-owning t w l) ∙ served-owning w (servedTimes t l)
 
+-- nor at the order
+served-ordering : (order : ℕ) (l : Lane) → served (ordering order l) ≡ ordering order (served l)
+unfolding served ordering advanced
+served-ordering order l = go (ltb (l .count) 8)
+  where
+    go : (t : Bool) → cond t (next (ordering order l)) (ordering order l) ≡ ordering order (cond t (next l) l)
+    go true = refl
+    go false = refl
+
+pub times-ordering : (t order : ℕ) (l : Lane) → servedTimes t (ordering order l) ≡ ordering order (servedTimes t l)
+unfolding servedTimes
+times-ordering zero order l = refl
+times-ordering (suc t) order l = ap served (times-ordering t order l) ∙ served-ordering order (servedTimes t l)
+
 -- what a lane holds and yields depends on its own opening alone: two histories, alike in nothing else, and two owners
-module _ (o p : Opening) (oko : Accepted o) (okp : Accepted p) (ko : Kept o) (kp : Kept p) (d : o .direction ≡ p .direction) (k : o .key ≡ p .key) (b : o .block ≡ p .block) where
+module _ (o p : Opening) (oko : Accepted o) (okp : Accepted p) (ko : Kept o) (kp : Kept p) (d : o .direction ≡ p .direction) (r : o .order ≡ p .order) (k : o .key ≡ p .key) (b : o .block ≡ p .block) where
   pub alone : own o ≡ own p → laneAt (end o .lanes) (o .lane) ≡ owning (o .owner) (laneAt (end p .lanes) (p .lane))
   unfolding opened owning
   alone t =
       stood o oko ko .is
-      ∙ (rw (t, d, k, b) (times-owning (own p) (o .owner) (opened (p .owner) (p .direction) (p .key) (p .block))))
+      ∙ (rw (t, d, r, k, b) (times-owning (own p) (o .owner) (opened (p .owner) (p .direction) (p .order) (p .key) (p .block))))
       ∙ ap (owning (o .owner)) (sym (stood p okp kp .is))
 
   pub alone-bytes : (w v : ℕ) (out into : List ℕ) → takeOf (end o) (o .lane) w out .code ≡ 0 → takeOf (end p) (p .lane) v into .code ≡ 0
@@ -219,7 +236,7 @@ module _ (o p : Opening) (oko : Accepted o) (okp : Accepted p) (ko : Kept o) (kp
   unfolding owning
   alone-bytes w v out into e f =
       taken-bytes o oko ko w out e
-      ∙ ap (λ (l : Lane). toBytes 16 (blockOf (l .state))) (alone (taken-own o oko ko w out e ∙ sym (taken-own p okp kp v into f)))
+      ∙ ap (λ (l : Lane). writeIn (l .order) (blockOf (l .state))) (alone (taken-own o oko ko w out e ∙ sym (taken-own p okp kp v into f)))
       ∙ sym (taken-bytes p okp kp v into f)
 
 -- ---- no lane escapes
@@ -229,12 +246,13 @@ record Since (n : ℕ) (b : Bench) (cs : List Call) : Type 0 where
   before : List Call
   owner : ℕ
   direction : ℕ
+  order : ℕ
   key : List ℕ
   block : List ℕ
   since : List Call
-  whole : before ++ opening n owner direction key block ∷ since ≡ cs
-  accepted : codeOf (run b before) (opening n owner direction key block) ≡ 0
-  kept : (w : ℕ) → never (releases n w) (leaves (run b before) (opening n owner direction key block)) since ≡ true
+  whole : before ++ opening n owner direction order key block ∷ since ≡ cs
+  accepted : codeOf (run b before) (opening n owner direction order key block) ≡ 0
+  kept : (w : ℕ) → never (releases n w) (leaves (run b before) (opening n owner direction order key block)) since ≡ true
 
 abbrev Busy : ℕ → Bench → Type 0
 Busy n b = laneAt (b .lanes) n .phase ≢ idle
@@ -251,6 +269,7 @@ split n (c ∷ cs) b s busy = ⊎-elim (λ h. now (touch n b c) (h .0) (h .1)) (
           before = c ∷ h .before;
           owner = h .owner;
           direction = h .direction;
+          order = h .order;
           key = h .key;
           block = h .block;
           since = h .since;
@@ -271,6 +290,7 @@ split n (c ∷ cs) b s busy = ⊎-elim (λ h. now (touch n b c) (h .0) (h .1)) (
           before = [];
           owner = h .owner;
           direction = h .direction;
+          order = h .order;
           key = h .key;
           block = h .block;
           since = cs;
@@ -288,7 +308,7 @@ held cs n busy = ⊎-elim (λ h. absurd (h .0 (fresh-idle n))) under (split n cs
     under : Since n freshBench cs → Held cs n
     under h =
         record {
-          by = record { before = h .before; lane = n; owner = h .owner; direction = h .direction; key = h .key; block = h .block; since = h .since };
+          by = record { before = h .before; lane = n; owner = h .owner; direction = h .direction; order = h .order; key = h .key; block = h .block; since = h .since };
           whole = h .whole;
           lane = refl;
           accepted = h .accepted;

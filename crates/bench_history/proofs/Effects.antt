@@ -46,7 +46,7 @@ data Does (b : Bench) (c : Call) : Type 0 where
 
 does : (b : Bench) (c : Call) → codeOf b c ≡ 0 → Does b c
 unfolding names asks
-does b (opening lane owner direction key block) e = puts lane (opened owner direction key block) (opens b lane owner direction key block e .left) (λ n. refl)
+does b (opening lane owner direction order key block) e = puts lane (opened owner direction order key block) (opens b lane owner direction order key block e .left) (λ n. refl)
 does b (turning asked) e = makes (turns b asked e .left) (λ n. refl)
 does b (taking lane caller out) e = puts lane idleLane (takes b lane caller out e .left) (λ n. refl)
 does b (closing lane caller) e = puts lane idleLane (closings b lane caller e .left) (λ n. refl)

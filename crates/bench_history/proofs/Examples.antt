@@ -26,12 +26,12 @@ guest = 1
 other : ℕ
 other = 257
 
--- lane i opened to encrypt, and to decrypt
+-- lane i opened to encrypt, in order 0, and to decrypt, in order 1
 encrypts : ℕ → Call
-encrypts i = opening i guest 0 (bytes 16) (bytes 16)
+encrypts i = opening i guest 0 0 (bytes 16) (bytes 16)
 
 decrypts : ℕ → Call
-decrypts i = opening i guest 1 (bytes 16) (bytes 16)
+decrypts i = opening i guest 1 1 (bytes 16) (bytes 16)
 
 -- the last lane, and the first k lanes opened in order, one way and the other in turn
 last : ℕ
@@ -77,7 +77,7 @@ examples = (refl, refl, refl, refl, refl, refl, refl, refl, refl, refl, refl)
 -- the numbers of each call in their order; the last lane accepted, and the next refused; the last lane as last served, and the next; other numbers of records
 refusals :
     (numbers freshBench (encrypts 1 ∷ turning 7 ∷ taking 1 guest (bytes 16) ∷ turning 1 ∷ taking 1 guest (bytes 17) ∷ taking 1 guest (bytes 16) ∷ taking 1 guest (bytes 16) ∷ []) ≡ 0 ∷ 0 ∷ 7 ∷ 0 ∷ 2 ∷ 0 ∷ 7 ∷ [])
-    × (numbers freshBench (encrypts laneCount ∷ encrypts last ∷ encrypts last ∷ opening 1 guest 2 (bytes 15) (bytes 15) ∷ opening 1 guest 1 (bytes 15) (bytes 15) ∷ opening 1 guest 1 (bytes 16) (bytes 15) ∷ []) ≡ 5 ∷ 0 ∷ 6 ∷ 9 ∷ 1 ∷ 2 ∷ [])
+    × (numbers freshBench (encrypts laneCount ∷ encrypts last ∷ encrypts last ∷ opening 1 guest 2 2 (bytes 15) (bytes 15) ∷ opening 1 guest 1 2 (bytes 15) (bytes 15) ∷ opening 1 guest 1 1 (bytes 15) (bytes 15) ∷ opening 1 guest 1 0 (bytes 16) (bytes 15) ∷ []) ≡ 5 ∷ 0 ∷ 6 ∷ 9 ∷ 13 ∷ 1 ∷ 2 ∷ [])
     × (numbers freshBench (taking laneCount guest (bytes 16) ∷ closing laneCount guest ∷ closing last guest ∷ []) ≡ 5 ∷ 5 ∷ 0 ∷ [])
     × (numbers (benchWith laneCount last) (turning 1 ∷ closing 0 guest ∷ []) ≡ 0 ∷ 0 ∷ [])
     × (numbers (benchWith laneCount laneCount) (encrypts laneCount ∷ turning 1025 ∷ taking laneCount guest [] ∷ closing 0 guest ∷ []) ≡ 10 ∷ 10 ∷ 10 ∷ 10 ∷ [])
@@ -96,10 +96,10 @@ owners :
     ≡ 0 ∷ 0 ∷ 11 ∷ 11 ∷ 11 ∷ 11 ∷ 11 ∷ 2 ∷ 0 ∷ [])
     × (numbers freshBench (encrypts 1 ∷ turning 7 ∷ taking 1 other (bytes 16) ∷ closing 1 other ∷ closing 1 0 ∷ taking 1 guest (bytes 16) ∷ closing 1 guest ∷ []) ≡ 0 ∷ 0 ∷ 11 ∷ 11 ∷ 11 ∷ 7 ∷ 0 ∷ [])
     × (numbers freshBench (taking 1 guest [] ∷ taking 1 0 [] ∷ closing 1 guest ∷ closing 1 0 ∷ taking laneCount 0 [] ∷ closing laneCount 0 ∷ []) ≡ 7 ∷ 7 ∷ 0 ∷ 0 ∷ 5 ∷ 5 ∷ [])
-    × (numbers freshBench (opening 1 256 0 (bytes 16) (bytes 16) ∷ opening 2 512 0 (bytes 16) (bytes 16) ∷ opening 1 0 2 [] [] ∷ opening 3 0 2 [] [] ∷ opening laneCount 0 2 [] [] ∷ closing 1 512 ∷ closing 1 256 ∷ [])
+    × (numbers freshBench (opening 1 256 0 0 (bytes 16) (bytes 16) ∷ opening 2 512 0 1 (bytes 16) (bytes 16) ∷ opening 1 0 2 2 [] [] ∷ opening 3 0 2 2 [] [] ∷ opening laneCount 0 2 2 [] [] ∷ closing 1 512 ∷ closing 1 256 ∷ [])
     ≡ 0 ∷ 0 ∷ 6 ∷ 11 ∷ 5 ∷ 11 ∷ 0 ∷ [])
-    × (map (λ l. l .owner) (take 3 (run freshBench (encrypts 1 ∷ opening 2 512 1 (bytes 16) (bytes 16) ∷ turning 9 ∷ taking 1 other (bytes 16) ∷ []) .lanes)) ≡ 0 ∷ guest ∷ 512 ∷ [])
-    × (map (λ l. l .owner) (take 3 (run freshBench (encrypts 1 ∷ opening 2 512 1 (bytes 16) (bytes 16) ∷ closing 1 guest ∷ closing 2 guest ∷ []) .lanes)) ≡ 0 ∷ 0 ∷ 512 ∷ [])
+    × (map (λ l. l .owner) (take 3 (run freshBench (encrypts 1 ∷ opening 2 512 1 1 (bytes 16) (bytes 16) ∷ turning 9 ∷ taking 1 other (bytes 16) ∷ []) .lanes)) ≡ 0 ∷ guest ∷ 512 ∷ [])
+    × (map (λ l. l .owner) (take 3 (run freshBench (encrypts 1 ∷ opening 2 512 1 1 (bytes 16) (bytes 16) ∷ closing 1 guest ∷ closing 2 guest ∷ []) .lanes)) ≡ 0 ∷ 0 ∷ 512 ∷ [])
 unfolding
     bytes guest other encrypts decrypts last openAll phases counts numbers benchWith soundCount soundLane admits everything allZero idleLane opened served laneCount runs after seek chosen anyRuns turned turnedBy servedBy lacks total
     freshBench allSound soundBench put answered openCode openOf turnCode turnOf takeCode takeOf closeCode closeOf answerTo asks serves run log
@@ -109,22 +109,22 @@ owners = (refl, refl, refl, refl, refl, refl)
 -- lends for its take; the guest's own opening and take are the same, and every call but that opening and the other's take is done.
 twin : ℕ → List Call
 twin x =
-    encrypts 0 ∷ opening 1 other 1 (replicate 16 x) (replicate 16 x) ∷ opening 1 other 1 (replicate 16 x) (replicate 15 x) ∷ turning 16
+    encrypts 0 ∷ opening 1 other 1 1 (replicate 16 x) (replicate 16 x) ∷ opening 1 other 1 1 (replicate 16 x) (replicate 15 x) ∷ turning 16
     ∷ taking 0 other (replicate 16 x) ∷ taking 0 guest (bytes 16) ∷ []
 
 twins : (x y : ℕ) → Pairwise guest (twin x) (twin y)
 unfolding twin guest other
 twins x y =
     more _ _ _ _ (same (encrypts 0))
-    (more _ _ _ _ (opens 1 257 1 _ _ (replicate 16 y) (replicate 16 y) (eqb-false 257 1 refl) refl refl)
-    (more _ _ _ _ (opens 1 257 1 _ _ (replicate 16 y) (replicate 15 y) (eqb-false 257 1 refl) refl refl)
+    (more _ _ _ _ (opens 1 257 1 1 _ _ (replicate 16 y) (replicate 16 y) (eqb-false 257 1 refl) refl refl)
+    (more _ _ _ _ (opens 1 257 1 1 _ _ (replicate 16 y) (replicate 15 y) (eqb-false 257 1 refl) refl refl)
     (more _ _ _ _ (same (turning 16))
     (more _ _ _ _ (takes 0 257 _ (replicate 16 y) (eqb-false 257 1 refl) refl)
     (more _ _ _ _ (same (taking 0 1 (bytes 16))) none)))))
 
 -- the first byte of the other's key, by which two of these lists are not the same
 keyOf : Call → List ℕ
-keyOf (opening lane owner direction key block) = key
+keyOf (opening lane owner direction order key block) = key
 keyOf (turning asked) = []
 keyOf (taking lane caller out) = []
 keyOf (closing lane caller) = []
@@ -147,6 +147,7 @@ latest =
       lane = last;
       owner = guest;
       direction = 1;
+      order = 1;
       key = bytes 16;
       block = bytes 16;
       since = taking last guest (bytes 16) ∷ closing last other ∷ closing last 0 ∷ turning 1025 ∷ closing laneCount guest ∷ turning (laneCount * 8 - 1) ∷ taking last other (bytes 16) ∷ decrypts last ∷ turning 1

@@ -31,37 +31,37 @@ module _ (g : ℕ) where
 
   data Like : Lane → Lane → Type 0 where
     self : (l : Lane) → Like l l
-    veil : (phase direction owner count : ℕ) (ws vs : List ℕ) (s r : State) → phase ≢ idle → owner ≢ g
-        → Like (record { phase = phase; direction = direction; owner = owner; count = count; words = ws; state = s })
-        (record { phase = phase; direction = direction; owner = owner; count = count; words = vs; state = r })
+    veil : (phase direction owner count order : ℕ) (ws vs : List ℕ) (s r : State) → phase ≢ idle → owner ≢ g
+        → Like (record { phase = phase; direction = direction; owner = owner; count = count; order = order; words = ws; state = s })
+        (record { phase = phase; direction = direction; owner = owner; count = count; order = order; words = vs; state = r })
 
   like-phase : (k l : Lane) → Like k l → k .phase ≡ l .phase
   like-phase k l (self x) = refl
-  like-phase k l (veil phase direction owner count ws vs s r busy ne) = refl
+  like-phase k l (veil phase direction owner count order ws vs s r busy ne) = refl
 
   like-lacks : (k l : Lane) → Like k l → lacks k ≡ lacks l
   unfolding lacks
   like-lacks k l (self x) = refl
-  like-lacks k l (veil phase direction owner count ws vs s r busy ne) = refl
+  like-lacks k l (veil phase direction owner count order ws vs s r busy ne) = refl
 
   like-admits : (k l : Lane) → Like k l → (caller : ℕ) → admits k caller ≡ admits l caller
   unfolding admits
   like-admits k l (self x) caller = refl
-  like-admits k l (veil phase direction owner count ws vs s r busy ne) caller = refl
+  like-admits k l (veil phase direction owner count order ws vs s r busy ne) caller = refl
 
   like-sound : (k l : Lane) → Like k l → soundLane k ≡ soundLane l
   like-sound k l (self x) = refl
-  like-sound k l (veil phase direction owner count ws vs s r busy ne) = busy-is k busy ∙ sym (busy-is l busy)
+  like-sound k l (veil phase direction owner count order ws vs s r busy ne) = busy-is k busy ∙ sym (busy-is l busy)
 
   -- what g may take from is the same
   like-own : (k l : Lane) → Like k l → admits k g ≡ true → k ≡ l
   like-own k l (self x) e = refl
-  like-own k l (veil phase direction owner count ws vs s r busy ne) e = absurd (ne (eqb-true owner g (sym (busy-admits k g busy) ∙ e)))
+  like-own k l (veil phase direction owner count order ws vs s r busy ne) e = absurd (ne (eqb-true owner g (sym (busy-admits k g busy) ∙ e)))
 
   like-served : (k l : Lane) → Like k l → Like (served k) (served l)
   unfolding served
   like-served k l (self x) = self (served x)
-  like-served k l (veil phase direction owner count ws vs s r busy ne) = go (ltb count 8)
+  like-served k l (veil phase direction owner count order ws vs s r busy ne) = go (ltb count 8)
     where
       p : ℕ
       p = cond (eqb (count + 1) 8) finished running
@@ -70,8 +70,8 @@ module _ (g : ℕ) where
       woken = cond-either (λ (q : ℕ). q ≢ idle) (eqb (count + 1) 8) finished running (λ t. eqb-false 2 0 refl) (λ t. eqb-false 1 0 refl)
 
       go : (t : Bool) → Like (cond t (next k) k) (cond t (next l) l)
-      go true = veil p direction owner (count + 1) ws vs (advanced k) (advanced l) woken ne
-      go false = veil phase direction owner count ws vs s r busy ne
+      go true = veil p direction owner (count + 1) order ws vs (advanced k) (advanced l) woken ne
+      go false = veil phase direction owner count order ws vs s r busy ne
 
   -- ---- two lists of records
 
@@ -184,15 +184,15 @@ module _ (g : ℕ) where
   module _ (b d : Bench) (h : LikeBench b d) where
     code-benches : (c : Call) → codeOf b c ≡ codeOf d c
     unfolding answerTo openOf turnOf takeOf closeOf answered
-    code-benches (opening lane owner direction key block) =
-        λ i. openCode (sound-alike b d h i) lane (phase-alike b d h lane i) owner direction (length key) (length block)
+    code-benches (opening lane owner direction order key block) =
+        λ i. openCode (sound-alike b d h i) lane (phase-alike b d h lane i) owner direction order (length key) (length block)
     code-benches (turning asked) = λ i. turnCode (sound-alike b d h i) asked
     code-benches (taking lane caller out) = λ i. takeCode (sound-alike b d h i) lane (admits-alike b d h lane caller i) (phase-alike b d h lane i) (length out)
     code-benches (closing lane caller) = λ i. closeCode (sound-alike b d h i) lane (admits-alike b d h lane caller i)
 
     tells-benches : (c : Call) → tells b c ≡ tells d c
     unfolding answerTo openOf turnOf takeOf closeOf answered
-    tells-benches (opening lane owner direction key block) = λ i. ifDone (code-benches (opening lane owner direction key block) i) 0 0
+    tells-benches (opening lane owner direction order key block) = λ i. ifDone (code-benches (opening lane owner direction order key block) i) 0 0
     tells-benches (turning asked) =
         λ i. ifDone (code-benches (turning asked) i) (min asked (likes-total (b .lanes) (d .lanes) (h .lanes) i)) 0
     tells-benches (taking lane caller out) = λ i. ifDone (code-benches (taking lane caller out) i) 0 0
@@ -211,7 +211,7 @@ module _ (g : ℕ) where
 
     bytes-benches : (c : Call) → cond (takesAs g c) (buffer b c) [] ≡ cond (takesAs g c) (buffer d c) []
     unfolding takesAs buffer
-    bytes-benches (opening lane owner direction key block) = refl
+    bytes-benches (opening lane owner direction order key block) = refl
     bytes-benches (turning asked) = refl
     bytes-benches (taking lane caller out) = go (eqb caller g) (λ t. eqb-true caller g t)
       where
@@ -229,16 +229,16 @@ module _ (g : ℕ) where
   code-calls : (b : Bench) (c e : Call) → Alike g c e → codeOf b c ≡ codeOf b e
   unfolding answerTo openOf takeOf answered
   code-calls b c e (same x) = refl
-  code-calls b c e (opens lane owner direction key block keys blocks ne k l) =
-      λ i. openCode (soundBench b) lane (laneAt (b .lanes) lane .phase) owner direction (k i) (l i)
+  code-calls b c e (opens lane owner direction order key block keys blocks ne k l) =
+      λ i. openCode (soundBench b) lane (laneAt (b .lanes) lane .phase) owner direction order (k i) (l i)
   code-calls b c e (takes lane caller out into ne l) =
       λ i. takeCode (soundBench b) lane (admits (laneAt (b .lanes) lane) caller) (laneAt (b .lanes) lane .phase) (l i)
 
   told-calls : (b : Bench) (c e : Call) → Alike g c e → told g b c ≡ told g b e
   unfolding told takesAs answerTo openOf takeOf answered
   told-calls b c e (same x) = refl
-  told-calls b c e (opens lane owner direction key block keys blocks ne k l) =
-      λ i. record { code = code-calls b c e (opens lane owner direction key block keys blocks ne k l) i; turns = ifDone (code-calls b c e (opens lane owner direction key block keys blocks ne k l) i) 0 0; bytes = [] }
+  told-calls b c e (opens lane owner direction order key block keys blocks ne k l) =
+      λ i. record { code = code-calls b c e (opens lane owner direction order key block keys blocks ne k l) i; turns = ifDone (code-calls b c e (opens lane owner direction order key block keys blocks ne k l) i) 0 0; bytes = [] }
   told-calls b c e (takes lane caller out into ne l) =
       λ i. record { code = code-calls b c e (takes lane caller out into ne l) i; turns = ifDone (code-calls b c e (takes lane caller out into ne l) i) 0 0; bytes = unseen i }
     where
@@ -255,13 +255,13 @@ module _ (g : ℕ) where
       go x y (same z) n = alone z n
         where
           alone : (x : Call) → codeOf b x ≡ codeOf d x → LikeBench (leaves b x) (leaves d x)
-          alone (opening lane owner direction key block) n = like-if _ _ n b d _ _ (like-put b d h lane _ _ (self (opened owner direction key block))) h
+          alone (opening lane owner direction order key block) n = like-if _ _ n b d _ _ (like-put b d h lane _ _ (self (opened owner direction order key block))) h
           alone (turning asked) n = like-if _ _ n b d _ _ (like-turns asked b d h) h
           alone (taking lane caller out) n = like-if _ _ n b d _ _ (like-put b d h lane _ _ (self idleLane)) h
           alone (closing lane caller) n = like-if _ _ n b d _ _ (like-put b d h lane _ _ (self idleLane)) h
-      go x y (opens lane owner direction key block keys blocks ne k l) n =
+      go x y (opens lane owner direction order key block keys blocks ne k l) n =
           like-if _ _ n b d _ _
-          (like-put b d h lane _ _ (veil running direction owner 0 (newWords key) (newWords keys) (packed block) (packed blocks) (eqb-false 1 0 refl) ne)) h
+          (like-put b d h lane _ _ (veil running direction owner 0 order (newWords key) (newWords keys) (packed order block) (packed order blocks) (eqb-false 1 0 refl) ne)) h
       go x y (takes lane caller out into ne l) n = like-if _ _ n b d _ _ (like-put b d h lane _ _ (self idleLane)) h
 
   -- ---- and so on through two lists

@@ -7,6 +7,7 @@ pub mod Quintuples
 pub mod Effects
 pub mod Belongs
 pub mod Demand
+pub mod OrderZero
 pub mod Guests
 pub mod OneOutcome
 mod Examples

@@ -7,8 +7,8 @@ use Rattle.bench.specs.declared.Bench.{Bench}
 use Rattle.bench.specs.declared.Answer.{Answer}
 use Rattle.bench.specs.Calls.{openOf, turnOf, takeOf, takenBytes, closeOf}
 
-module _ (b : Bench) (lane owner direction asked : ℕ) (key block out : List ℕ) where
-  pub open-lane : (r r′ : Answer) → r ≡ openOf b lane owner direction key block → r′ ≡ openOf b lane owner direction key block → r ≡ r′
+module _ (b : Bench) (lane owner direction order asked : ℕ) (key block out : List ℕ) where
+  pub open-lane : (r r′ : Answer) → r ≡ openOf b lane owner direction order key block → r′ ≡ openOf b lane owner direction order key block → r ≡ r′
   open-lane r r′ = one-answer
 
   pub turn : (r r′ : Answer) → r ≡ turnOf b asked → r′ ≡ turnOf b asked → r ≡ r′

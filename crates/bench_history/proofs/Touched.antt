@@ -9,6 +9,7 @@ use lib.Dec.{eqb}
 use borrow.Author.Tests.{eq-eqb, ne-eqb, le-leb, eqb-true, eqb-false}
 use Rattle.bits.proofs.Truth.{together}
 use Rattle.lane.specs.declared.Lane.{Lane}
+use Rattle.published.specs.Seen.{isOrder}
 use Rattle.lane.specs.Record.{idle, finished, soundLane, soundCount, admits, idleLane, opened}
 use Rattle.lane.proofs.Records.{idle-sound, tidy-sound, busy-admits}
 use Rattle.bench.specs.declared.Bench.{Bench}
@@ -22,18 +23,18 @@ use Rattle.bench_history.proofs.Accepted.{refused-leaves, refused-serve
 
 -- ---- soundness
 
-opened-sound : (owner direction : ℕ) (key block : List ℕ) → owner ≢ 0 → direction ≤ 1 → soundLane (opened owner direction key block) ≡ true
+opened-sound : (owner direction order : ℕ) (key block : List ℕ) → owner ≢ 0 → direction ≤ 1 → isOrder order ≡ true → soundLane (opened owner direction order key block) ≡ true
 unfolding opened soundCount
-opened-sound owner direction key block ne h =
-    tidy-sound (opened owner direction key block) (λ e. eqb-false 1 0 refl e) (record { owned = ne; directed = le-leb direction 1 h; counted = refl })
+opened-sound owner direction order key block ne h r =
+    tidy-sound (opened owner direction order key block) (λ e. eqb-false 1 0 refl e) (record { owned = ne; directed = le-leb direction 1 h; ordered = r; counted = refl })
 
 sound-idled : (b : Bench) (i : ℕ) → Sound b → i < laneCount → Sound (put b i idleLane)
 sound-idled b i s h = sound-put b i idleLane s h idle-sound
 
 done-sound : (b : Bench) (c : Call) → codeOf b c ≡ 0 → Sound (leaves b c)
-done-sound b (opening lane owner direction key block) e =
-    let o = opens b lane owner direction key block e in
-    rw (o .left) (sound-put b lane (opened owner direction key block) (o .sound) (o .lane-lt) (opened-sound owner direction key block (o .owned) (o .direction-le)))
+done-sound b (opening lane owner direction order key block) e =
+    let o = opens b lane owner direction order key block e in
+    rw (o .left) (sound-put b lane (opened owner direction order key block) (o .sound) (o .lane-lt) (opened-sound owner direction order key block (o .owned) (o .direction-le) (o .ordered)))
 done-sound b (turning asked) e = let o = turns b asked e in rw (o .left) (sound-turns asked b (o .sound))
 done-sound b (taking lane caller out) e = let o = takes b lane caller out e in rw (o .left) (sound-idled b lane (o .sound) (o .lane-lt))
 done-sound b (closing lane caller) e = let o = closings b lane caller e in rw (o .left) (sound-idled b lane (o .sound) (o .lane-lt))
@@ -71,9 +72,10 @@ pub record Same (n : ℕ) (b : Bench) (c : Call) : Type 0 where
 pub record Entered (n : ℕ) (b : Bench) (c : Call) : Type 0 where
   pub owner : ℕ
   pub direction : ℕ
+  pub order : ℕ
   pub key : List ℕ
   pub block : List ℕ
-  pub call : c ≡ opening n owner direction key block
+  pub call : c ≡ opening n owner direction order key block
   pub accepted : codeOf b c ≡ 0
   pub was-idle : laneAt (b .lanes) n .phase ≡ idle
 
@@ -104,7 +106,7 @@ elsewhere n b c i l e z k ne =
 -- what is refused releases nothing, and what is done in another lane does not release this one
 refused-keeps : (n w : ℕ) (b : Bench) (c : Call) → codeOf b c ≢ 0 → releases n w b c ≡ false
 unfolding answerTo releases
-refused-keeps n w b (opening lane owner direction key block) ne = refl
+refused-keeps n w b (opening lane owner direction order key block) ne = refl
 refused-keeps n w b (turning asked) ne = refl
 refused-keeps n w b (taking lane caller out) ne = rw (ne-eqb (takeOf b lane caller out .code) 0 ne) (and-false (eqb lane n && eqb caller w))
 refused-keeps n w b (closing lane caller) ne = rw (ne-eqb (closeOf b lane caller .code) 0 ne) (and-false (eqb lane n && eqb caller w))
@@ -118,11 +120,11 @@ released-by n lane caller r p e = together _ (eqb r 0) (together (eqb lane n) _ 
 
 touch-done : (n : ℕ) (b : Bench) (c : Call) → codeOf b c ≡ 0 → Touch n b c
 unfolding releases closes answerTo
-touch-done n b (opening lane owner direction key block) e =
-    let o = opens b lane owner direction key block e in
+touch-done n b (opening lane owner direction order key block) e =
+    let o = opens b lane owner direction order key block e in
     elim (ℕ-discrete n lane) [
-      | yes p ↦ entered (record { owner = owner; direction = direction; key = key; block = block; call = ap (λ (i : ℕ). opening i owner direction key block) (sym p); accepted = e; was-idle = rw p (o .was-idle) })
-      | no ne ↦ elsewhere n b (opening lane owner direction key block) lane (opened owner direction key block) (o .left) (o .none) (λ w. refl) ne
+      | yes p ↦ entered (record { owner = owner; direction = direction; order = order; key = key; block = block; call = ap (λ (i : ℕ). opening i owner direction order key block) (sym p); accepted = e; was-idle = rw p (o .was-idle) })
+      | no ne ↦ elsewhere n b (opening lane owner direction order key block) lane (opened owner direction order key block) (o .left) (o .none) (λ w. refl) ne
     ]
 touch-done n b (turning asked) e = served asked (turns b asked e .left) (turns b asked e .logged) (λ w. refl)
 touch-done n b (taking lane caller out) e =

@@ -84,10 +84,10 @@ eighty-leaves b c s eighty n h = go (touch n b c)
     go : Touch n b c → length (laneAt (leaves b c .lanes) n .words) ≡ 80
     go (same t) = ap (λ (l : Lane). length (l .words)) (t .lane) ∙ eighty n h
     go (entered t) =
-        let o = opens b n (t .owner) (t .direction) (t .key) (t .block) (rw (t .call) at (t .accepted)) in
+        let o = opens b n (t .owner) (t .direction) (t .order) (t .key) (t .block) (rw (t .call) at (t .accepted)) in
         ap (λ (d : Call). length (laneAt (leaves b d .lanes) n .words)) (t .call)
         ∙ ap (λ (d : Bench). length (laneAt (d .lanes) n .words)) (o .left)
-        ∙ ap (λ (l : Lane). length (l .words)) (put-here b n (opened (t .owner) (t .direction) (t .key) (t .block)) (o .sound) (o .lane-lt)) ∙ new-words (t .key)
+        ∙ ap (λ (l : Lane). length (l .words)) (put-here b n (opened (t .owner) (t .direction) (t .order) (t .key) (t .block)) (o .sound) (o .lane-lt)) ∙ new-words (t .key)
     go (left t) = ap (λ (l : Lane). length (l .words)) (t .wiped)
     go (serving asked e l z) =
         ap (λ (d : Bench). length (laneAt (d .lanes) n .words)) e
@@ -116,7 +116,7 @@ entered-enters : (n : ℕ) (b : Bench) (c : Call) → Entered n b c → enters n
 unfolding enters answerTo
 entered-enters n b c t =
     ap (enters n b) (t .call)
-    ∙ together (eqb n n) _ (eq-eqb n n refl) (eq-eqb (openOf b n (t .owner) (t .direction) (t .key) (t .block) .code) DONE (rw (t .call) at (t .accepted)))
+    ∙ together (eqb n n) _ (eq-eqb n n refl) (eq-eqb (openOf b n (t .owner) (t .direction) (t .order) (t .key) (t .block) .code) DONE (rw (t .call) at (t .accepted)))
 
 idle-stays : (n : ℕ) (cs : List Call) (b : Bench) → Sound b → laneAt (b .lanes) n .phase ≡ idle → never (enters n) b cs ≡ true
     → laneAt (run b cs .lanes) n .phase ≡ idle

@@ -12,12 +12,12 @@ use Rattle.bench.specs.Calls.{freshBench, takenBytes}
 use Rattle.bench_history.specs.History.{Call, opening, turning, taking, closing, codeOf, leaves, tells}
 
 -- ---- what may differ: the values of key and block bytes in openings by others than g, and of the bytes that others lend for their takes (a buffer
--- used twice holds that guest's former block); never a length, a lane, a number, a direction, or the calls' kinds and order
+-- used twice holds that guest's former block); never a length, a lane, a number, a direction, an order of bytes, or the calls' kinds and order
 
 pub data Alike (g : ℕ) : Call → Call → Type 0 where
   same : (c : Call) → Alike g c c
-  opens : (lane owner direction : ℕ) (key block keys blocks : List ℕ) → owner ≢ g → length key ≡ length keys → length block ≡ length blocks
-      → Alike g (opening lane owner direction key block) (opening lane owner direction keys blocks)
+  opens : (lane owner direction order : ℕ) (key block keys blocks : List ℕ) → owner ≢ g → length key ≡ length keys → length block ≡ length blocks
+      → Alike g (opening lane owner direction order key block) (opening lane owner direction order keys blocks)
   takes : (lane caller : ℕ) (out into : List ℕ) → caller ≢ g → length out ≡ length into → Alike g (taking lane caller out) (taking lane caller into)
 
 pub data Pairwise (g : ℕ) : List Call → List Call → Type 0 where
@@ -32,14 +32,14 @@ pub record Told : Type 0 where
   pub bytes : List ℕ
 
 unfoldable pub takesAs : ℕ → Call → Bool
-takesAs g (opening lane owner direction key block) = false
+takesAs g (opening lane owner direction order key block) = false
 takesAs g (turning asked) = false
 takesAs g (taking lane caller out) = eqb caller g
 takesAs g (closing lane caller) = false
 
 -- the buffer of a take after it; other calls have none
 unfoldable pub buffer : Bench → Call → List ℕ
-buffer b (opening lane owner direction key block) = []
+buffer b (opening lane owner direction order key block) = []
 buffer b (turning asked) = []
 buffer b (taking lane caller out) = takenBytes b lane caller out
 buffer b (closing lane caller) = []

@@ -13,14 +13,14 @@ use Rattle.bench.specs.Turning.{servedBy}
 use Rattle.bench.specs.Calls.{openOf, turnOf, takeOf, closeOf}
 
 pub data Call : Type 0 where
-  opening : (lane owner direction : ℕ) (key block : List ℕ) → Call
+  opening : (lane owner direction order : ℕ) (key block : List ℕ) → Call
   turning : (asked : ℕ) → Call
   taking : (lane caller : ℕ) (out : List ℕ) → Call
   closing : (lane caller : ℕ) → Call
 
 -- what a call answers: its number, the bench that it leaves, and the turns that it tells
 unfoldable pub answerTo : Bench → Call → Answer
-answerTo b (opening lane owner direction key block) = openOf b lane owner direction key block
+answerTo b (opening lane owner direction order key block) = openOf b lane owner direction order key block
 answerTo b (turning asked) = turnOf b asked
 answerTo b (taking lane caller out) = takeOf b lane caller out
 answerTo b (closing lane caller) = closeOf b lane caller
@@ -36,7 +36,7 @@ tells b c = answerTo b c .made
 
 -- the turns that it asks for, and the lanes that it serves, one for each turn made, in order
 unfoldable pub asks : Call → ℕ
-asks (opening lane owner direction key block) = 0
+asks (opening lane owner direction order key block) = 0
 asks (turning asked) = asked
 asks (taking lane caller out) = 0
 asks (closing lane caller) = 0
@@ -65,26 +65,26 @@ lastOf i (j ∷ js) = lastOf j js
 
 -- whether a call may change lane n
 unfoldable pub names : ℕ → Call → Bool
-names n (opening lane owner direction key block) = eqb lane n
+names n (opening lane owner direction order key block) = eqb lane n
 names n (turning asked) = true
 names n (taking lane caller out) = eqb lane n
 names n (closing lane caller) = eqb lane n
 
 -- whether a call opens lane n; whether it closes it with the number w; whether it takes from it or closes it with the number w
 unfoldable pub enters : ℕ → Bench → Call → Bool
-enters n b (opening lane owner direction key block) = eqb lane n && eqb (openOf b lane owner direction key block .code) DONE
+enters n b (opening lane owner direction order key block) = eqb lane n && eqb (openOf b lane owner direction order key block .code) DONE
 enters n b (turning asked) = false
 enters n b (taking lane caller out) = false
 enters n b (closing lane caller) = false
 
 unfoldable pub closes : (n w : ℕ) → Bench → Call → Bool
-closes n w b (opening lane owner direction key block) = false
+closes n w b (opening lane owner direction order key block) = false
 closes n w b (turning asked) = false
 closes n w b (taking lane caller out) = false
 closes n w b (closing lane caller) = eqb lane n && eqb caller w && eqb (closeOf b lane caller .code) DONE
 
 unfoldable pub releases : (n w : ℕ) → Bench → Call → Bool
-releases n w b (opening lane owner direction key block) = false
+releases n w b (opening lane owner direction order key block) = false
 releases n w b (turning asked) = false
 releases n w b (taking lane caller out) = eqb lane n && eqb caller w && eqb (takeOf b lane caller out .code) DONE
 releases n w b (closing lane caller) = eqb lane n && eqb caller w && eqb (closeOf b lane caller .code) DONE

@@ -8,8 +8,8 @@ use Prim.Native.Nat.{ℕ, _+_, _-_, _*_, _≤_, _<_, min}
 use lib.Dec.{eqb, leb}
 use lib.ListN.{length, take, drop, replicate}
 use Rattle.answers.specs.Numbers.{DONE, BAD_BLOCK_LENGTH, LANE_NOT_FINISHED, NOT_THE_OWNER}
-use Rattle.published.specs.Bytes.{readBlock}
-use Rattle.published.specs.Gift128.{pairsOf, rounds128, unrounds128, encrypted, decrypted}
+use Rattle.published.specs.Seen.{readIn, seen}
+use Rattle.published.specs.Gift128.{pairsOf, rounds128, unrounds128}
 use Rattle.primitives.specs.Packed.{stateOf}
 use Rattle.key_schedule.specs.Expand.{expanded}
 use Rattle.lane.specs.declared.Lane.{Lane}
@@ -21,32 +21,37 @@ use Rattle.bench_history.specs.History.{Call, opening, turning, taking, 
 
 -- ---- what a lane's record is to be
 
--- the block after t turns: 5t published rounds done, or the rounds 40 down to 41 − 5t undone
-unfoldable pub reached : ℕ → List ℕ → List ℕ → ℕ → ℕ
-reached direction key block t =
+-- the block after t turns: 5t published rounds done, or the rounds 40 down to 41 − 5t undone, on the block that the lane's order sees
+unfoldable pub reached : (direction order : ℕ) (key block : List ℕ) → ℕ → ℕ
+reached direction order key block t =
     cond (eqb direction 0)
-    (rounds128 (take (5 * t) (pairsOf key)) 0 (readBlock block))
-    (unrounds128 (drop (40 - 5 * t) (pairsOf key)) (40 - 5 * t) (readBlock block))
+    (rounds128 (take (5 * t) (pairsOf key)) 0 (readIn order block))
+    (unrounds128 (drop (40 - 5 * t) (pairsOf key)) (40 - 5 * t) (readIn order block))
 
 -- the whole record then: running until the eighth turn, and finished with it
-unfoldable pub standing : (owner direction : ℕ) (key block : List ℕ) → ℕ → Lane
-standing owner direction key block t =
+unfoldable pub standing : (owner direction order : ℕ) (key block : List ℕ) → ℕ → Lane
+standing owner direction order key block t =
     record {
       phase = cond (leb 8 t) finished running;
       direction = direction;
       owner = owner;
       count = t;
+      order = order;
       words = expanded key;
-      state = stateOf (reached direction key block t);
+      state = stateOf (reached direction order key block t);
     }
 
 -- the same record under another owner
 unfoldable pub owning : ℕ → Lane → Lane
-owning w l = record { phase = l .phase; direction = l .direction; owner = w; count = l .count; words = l .words; state = l .state }
+owning w l = record { phase = l .phase; direction = l .direction; owner = w; count = l .count; order = l .order; words = l .words; state = l .state }
 
--- what a lane yields in the end
-unfoldable pub answer : ℕ → List ℕ → List ℕ → List ℕ
-answer direction key block = cond (eqb direction 0) (encrypted key block) (decrypted key block)
+-- and in another order
+unfoldable pub ordering : ℕ → Lane → Lane
+ordering order l = record { phase = l .phase; direction = l .direction; owner = l .owner; count = l .count; order = order; words = l .words; state = l .state }
+
+-- what a lane yields in the end: the forty rounds, done or undone, seen through its order
+unfoldable pub answer : (direction order : ℕ) (key block : List ℕ) → List ℕ
+answer direction order key block = cond (eqb direction 0) (seen order (rounds128 (pairsOf key) 0) block) (seen order (unrounds128 (pairsOf key) 0) block)
 
 -- ---- an opening in a history: the calls before it on a fresh bench, what it asks for, and the calls since
 
@@ -55,12 +60,13 @@ pub record Opening : Type 0 where
   pub lane : ℕ
   pub owner : ℕ
   pub direction : ℕ
+  pub order : ℕ
   pub key : List ℕ
   pub block : List ℕ
   pub since : List Call
 
 abbrev pub call : Opening → Call
-call o = opening (o .lane) (o .owner) (o .direction) (o .key) (o .block)
+call o = opening (o .lane) (o .owner) (o .direction) (o .order) (o .key) (o .block)
 
 -- all calls, and the bench after them
 abbrev pub calls : Opening → List Call
@@ -135,10 +141,10 @@ Belongs b cs = (n w : ℕ) → BusyFor w (laneAt (b .lanes) n) → never (releas
 -- after the eighth a take by its owner gives the answer, and to any other number it is shut.
 pub record Stands (o : Opening) : Type 0 where
   pub at-most : own o ≤ 8
-  pub stands : laneAt (end o .lanes) (o .lane) ≡ standing (o .owner) (o .direction) (o .key) (o .block) (own o)
+  pub stands : laneAt (end o .lanes) (o .lane) ≡ standing (o .owner) (o .direction) (o .order) (o .key) (o .block) (own o)
   pub early : own o < 8 → Early (o .owner) (end o) (o .lane)
   pub ready : own o ≡ 8 → (out : List ℕ) → length out ≡ 16
-      → (takeOf (end o) (o .lane) (o .owner) out .code ≡ DONE) × (takenBytes (end o) (o .lane) (o .owner) out ≡ answer (o .direction) (o .key) (o .block))
+      → (takeOf (end o) (o .lane) (o .owner) out .code ≡ DONE) × (takenBytes (end o) (o .lane) (o .owner) out ≡ answer (o .direction) (o .order) (o .key) (o .block))
   pub only-ready : (caller : ℕ) (out : List ℕ) → takeOf (end o) (o .lane) caller out .code ≡ DONE → own o ≡ 8
   pub others : (caller : ℕ) → caller ≢ o .owner → ShutTo caller (end o) (o .lane)
 

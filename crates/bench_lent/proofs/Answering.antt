@@ -5,6 +5,7 @@ use mathlib.Core.List.{List}
 use mathlib.Core.Logic.{_≢_}
 use Prim.Native.Nat.{ℕ, _≤_, _<_}
 use lib.ListN.{length, set}
+use borrow.Author.Tests.{leb-true}
 use Rattle.lane.specs.declared.Lane.{Lane}
 use Rattle.lane.specs.Record.{admits, idleLane, opened, yielded}
 use Rattle.bench.specs.declared.Bench.{Bench}
@@ -20,10 +21,10 @@ use Rattle.bench_lent.specs.Lent.{benchOf, Leaves, Opens, Takes, Closes}
 use Rattle.bench_lent.specs.Inner.{Sees}
 
 -- of records that are not sound a number depends neither on the phase nor on whom the lane admits
-open-phase : (s : Bool) (lane p p′ owner direction key block : ℕ) → (s ≡ true → p ≡ p′) → openCode s lane p owner direction key block ≡ openCode s lane p′ owner direction key block
+open-phase : (s : Bool) (lane p p′ owner direction order key block : ℕ) → (s ≡ true → p ≡ p′) → openCode s lane p owner direction order key block ≡ openCode s lane p′ owner direction order key block
 unfolding openCode
-open-phase true lane p p′ owner direction key block e = ap (λ (q : ℕ). openCode true lane q owner direction key block) (e refl)
-open-phase false lane p p′ owner direction key block e = refl
+open-phase true lane p p′ owner direction order key block e = ap (λ (q : ℕ). openCode true lane q owner direction order key block) (e refl)
+open-phase false lane p p′ owner direction order key block e = refl
 
 take-seen : (s : Bool) (lane : ℕ) (t t′ : Bool) (p p′ out : ℕ) → (s ≡ true → (p ≡ p′) × (t ≡ t′)) → takeCode s lane t p out ≡ takeCode s lane t′ p′ out
 unfolding takeCode
@@ -77,20 +78,24 @@ module _ (ys : List Lane) (last lane guest : ℕ) (r : Seen) (sees : Sees ys las
     pub take-yes : c ≡ 0 → {l m : Lane} {zs : List Lane} {bytes : List ℕ} → l ≡ laneAt ys lane → bytes ≡ yielded l out → m ≡ idleLane → zs ≡ set ys lane m → Takes ys last lane guest out c zs bytes
     take-yes z e y f g = let p = take-done b (sees .0) lane guest out refl refl take-told z (idle-now f g) (y ∙ ap (λ (k : Lane). yielded k out) e) in (leaves (p .0), p .1)
 
-  module _ (direction : ℕ) (key block : List ℕ) (told : c ≡ openCode (r .sound) lane (r .phase) guest direction (length key) (length block)) where
-    open-told : c ≡ openCode (r .sound) lane (laneAt ys lane .phase) guest direction (length key) (length block)
-    open-told = told ∙ open-phase (r .sound) lane (r .phase) (laneAt ys lane .phase) guest direction (length key) (length block) (λ ok. sees .1 ok .0)
+  module _ (direction order : ℕ) (key block : List ℕ) (told : c ≡ openCode (r .sound) lane (r .phase) guest direction order (length key) (length block)) where
+    open-told : c ≡ openCode (r .sound) lane (laneAt ys lane .phase) guest direction order (length key) (length block)
+    open-told = told ∙ open-phase (r .sound) lane (r .phase) (laneAt ys lane .phase) guest direction order (length key) (length block) (λ ok. sees .1 ok .0)
 
     pub open-in : c ≡ 0 → lane < length ys
-    open-in z = let p = open-passed (r .sound) lane (r .phase) guest direction (length key) (length block) (sym told ∙ z) in inside (p .is-sound) (p .lane-lt)
+    open-in z = let p = open-passed (r .sound) lane (r .phase) guest direction order (length key) (length block) (sym told ∙ z) in inside (p .is-sound) (p .lane-lt)
 
     -- the direction fits a byte
     pub open-way : c ≡ 0 → direction ≤ 1
-    open-way z = open-passed (r .sound) lane (r .phase) guest direction (length key) (length block) (sym told ∙ z) .direction-le
+    open-way z = open-passed (r .sound) lane (r .phase) guest direction order (length key) (length block) (sym told ∙ z) .direction-le
 
-    pub open-no : c ≢ 0 → Opens ys last lane guest direction key block c ys
-    open-no ne = leaves (open-refused b (sees .0) lane guest direction key block refl open-told ne)
+    -- and the order two
+    pub open-order : c ≡ 0 → order ≤ 1
+    open-order z = leb-true order 1 (open-passed (r .sound) lane (r .phase) guest direction order (length key) (length block) (sym told ∙ z) .ordered)
 
-    pub open-yes : c ≡ 0 → {l : Lane} {zs : List Lane} → l ≡ opened guest direction key block → zs ≡ set ys lane l → Opens ys last lane guest direction key block c zs
+    pub open-no : c ≢ 0 → Opens ys last lane guest direction order key block c ys
+    open-no ne = leaves (open-refused b (sees .0) lane guest direction order key block refl open-told ne)
+
+    pub open-yes : c ≡ 0 → {l : Lane} {zs : List Lane} → l ≡ opened guest direction order key block → zs ≡ set ys lane l → Opens ys last lane guest direction order key block c zs
     unfolding put
-    open-yes z e f = leaves (open-done b (sees .0) lane guest direction key block refl open-told z (ap (λ (zs : List Lane). benchOf zs last) (f ∙ ap (set ys lane) e)))
+    open-yes z e f = leaves (open-done b (sees .0) lane guest direction order key block refl open-told z (ap (λ (zs : List Lane). benchOf zs last) (f ∙ ap (set ys lane) e)))

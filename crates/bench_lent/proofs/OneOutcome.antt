@@ -14,8 +14,8 @@ use Rattle.bench_lent.specs.Lent.{benchOf, Opens, Serves, Takes, Closes}
 both : {A B : Type 0} {a x x′ : A} {b y y′ : B} → (x ≡ a) × (y ≡ b) → (x′ ≡ a) × (y′ ≡ b) → (x ≡ x′) × (y ≡ y′)
 both p q = (one-answer (p .0) (q .0), one-answer (p .1) (q .1))
 
-module _ (ls : List Lane) (last lane owner direction asked : ℕ) (key block out : List ℕ) where
-  pub open-lane : (r r′ : ℕ) (e e′ : List Lane) → Opens ls last lane owner direction key block r e → Opens ls last lane owner direction key block r′ e′ → (r ≡ r′) × (e ≡ e′)
+module _ (ls : List Lane) (last lane owner direction order asked : ℕ) (key block out : List ℕ) where
+  pub open-lane : (r r′ : ℕ) (e e′ : List Lane) → Opens ls last lane owner direction order key block r e → Opens ls last lane owner direction order key block r′ e′ → (r ≡ r′) × (e ≡ e′)
   open-lane r r′ e e′ = both
 
   pub turn : (r r′ : Turns) (e e′ : List Lane) → Serves ls last asked r e → Serves ls last asked r′ e′ → (r ≡ r′) × (e ≡ e′)
@@ -39,7 +39,7 @@ module _ (ls : List Lane) (last lane owner direction asked : ℕ) (key block out
       go true = e
       go false = refl
 
-  pub open-stays : openOf b lane owner direction key block .bench .last ≡ last
+  pub open-stays : openOf b lane owner direction order key block .bench .last ≡ last
   unfolding openOf put
   open-stays = stays _ _ _ refl
 

@@ -26,10 +26,10 @@ IdleLane = record { params = []; result = lane; Asks = λ a. freely; Right = λ 
 
 abbrev pub OpenCode : Function
 OpenCode = record {
-  params = truth ∷ word ∷ byte ∷ half ∷ word ∷ size ∷ size ∷ [];
+  params = truth ∷ word ∷ byte ∷ half ∷ word ∷ word ∷ size ∷ size ∷ [];
   result = word;
   Asks = λ a. freely;
-  Right = λ a r. r ≡ openCode (a .0) (a .1 .0) (a .1 .1 .0) (a .1 .1 .1 .0) (a .1 .1 .1 .1 .0) (a .1 .1 .1 .1 .1 .0) (a .1 .1 .1 .1 .1 .1 .0);
+  Right = λ a r. r ≡ openCode (a .0) (a .1 .0) (a .1 .1 .0) (a .1 .1 .1 .0) (a .1 .1 .1 .1 .0) (a .1 .1 .1 .1 .1 .0) (a .1 .1 .1 .1 .1 .1 .0) (a .1 .1 .1 .1 .1 .1 .1 .0);
 }
 
 abbrev pub TakeCode : Function

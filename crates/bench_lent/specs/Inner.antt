@@ -51,6 +51,6 @@ Goes s n r =
 
 -- ---- a record stored again
 
--- everything of the new one but the owner and the round words, which stay
+-- everything of the new one but the owner, the order and the round words, which stay
 abbrev pub renewed : Lane → Lane → Lane
-renewed old new = record { phase = new .phase; direction = new .direction; owner = old .owner; count = new .count; words = old .words; state = new .state }
+renewed old new = record { phase = new .phase; direction = new .direction; owner = old .owner; count = new .count; order = old .order; words = old .words; state = new .state }

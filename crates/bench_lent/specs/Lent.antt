@@ -16,8 +16,8 @@ benchOf records last = record { lanes = records; last = last }
 abbrev pub Leaves : Answer → ℕ → List Lane → Type 0
 Leaves a r e = (r ≡ a .code) × (e ≡ a .bench .lanes)
 
-abbrev pub Opens : (records : List Lane) (last lane owner direction : ℕ) (key block : List ℕ) → ℕ → List Lane → Type 0
-Opens records last lane owner direction key block = Leaves (openOf (benchOf records last) lane owner direction key block)
+abbrev pub Opens : (records : List Lane) (last lane owner direction order : ℕ) (key block : List ℕ) → ℕ → List Lane → Type 0
+Opens records last lane owner direction order key block = Leaves (openOf (benchOf records last) lane owner direction order key block)
 
 -- what a call for turns tells of an answer: the last served number comes back too
 abbrev pub tells : Answer → Turns

@@ -47,7 +47,7 @@ fn put(lanes: &mut [Lane], n: usize, l: Lane)
     lanes[n] = l;
 }
 
-// All of a record but its owner and its round words, which stay.
+// All of a record but its owner, its order and its round words, which stay.
 fn renew(lanes: &mut [Lane], n: usize, l: Lane)
     requires { ⌜ n < length (now lanes) ⌝ }
     ensures { λ r. ⌜ now (lanes .exit) ≡ set (now (lanes .entry)) n (renewed (laneAt (now (lanes .entry)) n) l) ⌝ }
@@ -231,10 +231,11 @@ pub fn open_lane(
     lane: u32,
     owner: u16,
     direction: u32,
+    order: u32,
     key: &[u8],
     block: &[u8],
 ) -> u32
-    ensures { λ r. ⌜ Opens (now (lanes .entry)) last lane owner direction (now (key .entry)) (now (block .entry)) r (now (lanes .exit)) ⌝ }
+    ensures { λ r. ⌜ Opens (now (lanes .entry)) last lane owner direction order (now (key .entry)) (now (block .entry)) r (now (lanes .exit)) ⌝ }
 {
     let s = look(lanes, last, lane, owner);
     let code = open_code(
@@ -243,6 +244,7 @@ pub fn open_lane(
         s.phase,
         owner,
         direction,
+        order,
         key.len(),
         block.len(),
     );
@@ -252,7 +254,7 @@ pub fn open_lane(
     put(
         lanes,
         lane as usize,
-        opened(owner, direction as u8, key, block),
+        opened(owner, direction as u8, order as u16, key, block),
     );
     code
 }

@@ -8,11 +8,9 @@ use lib.Dec.{eqb}
 use lib.ListN.{length, take, drop, length-drop}
 use lib.Seq.{drop-drop, drop-append-le, take-append-le}
 use borrow.Author.Tests.{ne-eqb}
-use Rattle.answers.specs.Order.{ifDone}
-use Rattle.published.specs.Calls.{blockCode}
 use Rattle.published.specs.Gift128.{encrypted}
 use Rattle.published.proofs.Reading.{length-toBytes}
-use Rattle.gift128.specs.Calls.{EncryptsByWords, encryptedBy, wordsCode}
+use Rattle.gift128.specs.Calls.{encryptedBy}
 use Rattle.cmac.specs.Standard.{_⊕_, zeroBlock, blockCount, before, blocks, past, lastBlock, chained, cmac}
 
 -- ---- the cipher by words
@@ -20,11 +18,6 @@ use Rattle.cmac.specs.Standard.{_⊕_, zeroBlock, blockCount, before, bl
 pub length-encryptedBy : (ws b : List ℕ) → length (encryptedBy ws b) ≡ 16
 unfolding encryptedBy
 length-encryptedBy ws b = length-toBytes 16 _
-
--- what the cipher's call leaves, where the lengths are right
-pub encrypts : (ws b : List ℕ) {r : ℕ} {e : List ℕ} → length ws ≡ 80 → length b ≡ 16 → EncryptsByWords ws b r e → e ≡ encryptedBy ws b
-unfolding wordsCode blockCode
-encrypts ws b {r} {e} w l g = g .leaves ∙ ap₂ (λ (m n : ℕ). ifDone (wordsCode m n) (encryptedBy ws b) b) w l
 
 -- ---- how many blocks are before the last
 

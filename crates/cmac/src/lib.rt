@@ -7,6 +7,7 @@ use gift128::encrypt_by_words;
 use orders::key_code;
 use orders::piece_code;
 use orders::tag_code;
+use packing::NUMBER;
 ghost use mathlib.Core.Path.{_≡_};
 ghost use mathlib.Core.Bool.{cond};
 ghost use mathlib.Core.List.{_++_};
@@ -123,7 +124,7 @@ fn absorb(words: &[u32], chain: &mut [u8], block: &[u8])
     ensures { λ r. ⌜ now (chain .exit) ≡ encryptedBy (now (words .entry)) (now (chain .entry) ⊕ now (block .entry)) ⌝ }
 {
     mix(chain, block);
-    encrypt_by_words(words, chain);
+    encrypt_by_words(NUMBER, words, chain);
 }
 
 // All blocks before the last; how many bytes they are.
@@ -179,7 +180,7 @@ fn last_key(words: &[u32], key: &mut [u8], full: bool)
     requires { ⌜ now key ≡ zeroBlock ⌝ }
     ensures { λ r. ⌜ now (key .exit) ≡ cond full (K1 (encryptedBy (now (words .entry)))) (K2 (encryptedBy (now (words .entry)))) ⌝ }
 {
-    encrypt_by_words(words, key);
+    encrypt_by_words(NUMBER, words, key);
     double(key);
     if full {
         return;

@@ -7,11 +7,9 @@ use native.Mathlib.Nat.{le-of-eq}
 use lib.ListN.{length, take, drop, length-append, length-take, drop-of-length-le}
 use lib.Seq.{take-append-add, take-append-seam, take-at, drop-at, drop-drop}
 use borrow.Rule.Slice.PartMut.{putMid, postOf}
-use Rattle.answers.proofs.Outcome.{if-done}
 use Rattle.published.specs.Bytes.{toBytes}
-use Rattle.published.specs.Calls.{blockCode}
 use Rattle.published.proofs.Reading.{length-toBytes}
-use Rattle.gift128.specs.Calls.{wordsCode, encryptedBy, EncryptsByWords}
+use Rattle.gift128.specs.Calls.{encryptedBy}
 use Rattle.counter.specs.Standard.{counterBlock, keyBlocks}
 
 pub length-encrypted : (w block : List ℕ) → length (encryptedBy w block) ≡ 16
@@ -53,11 +51,6 @@ laid o block x y c lo lb ex ey =
     ap₂ (λ (f e : List ℕ). putMid 12 4 (f ++ postOf 0 12 block) e) ex ey
     ∙ ap₂ (λ (f e : List ℕ). f ++ (toBytes 4 c ++ e)) (take-at o (drop 12 block) 12 lo) (ap (drop 4) (drop-at o (drop 12 block) 12 lo) ∙ drop-drop 4 12 block ∙ drop-of-length-le block (le-of-eq lb))
     ∙ ap (λ (e : List ℕ). o ++ e) (append-nil (toBytes 4 c))
-
--- a block by eighty words is not refused
-pub encrypts : (w b e : List ℕ) (r : ℕ) → length w ≡ 80 → length b ≡ 16 → EncryptsByWords w b r e → e ≡ encryptedBy w b
-unfolding wordsCode blockCode
-encrypts w b e r lw lb g = g .leaves ∙ if-done (wordsCode (length w) (length b)) (encryptedBy w b) b (rw (lw, lb))
 
 -- the block at place a was written: those before a + 16 are
 pub one-more : (f : List ℕ → List ℕ) (o out new rest : List ℕ) (c a : ℕ) → a % 16 ≡ 0 → a ≤ length out → length new ≡ 16

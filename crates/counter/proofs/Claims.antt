@@ -29,7 +29,8 @@ use Rattle.counter.proofs.Leaving.{fits-left}
 -- ---- the standard's counter mode
 
 by-key : (key : List ℕ) → encryptedBy (expanded key) ≡ encrypted key
-by-key key = fun-ext (crossed-key false key)
+unfolding encryptedBy encrypted
+by-key key = fun-ext (crossed-key 0 false key)
 
 -- the key stream from the first counter on, block after block
 pub key-stream : (key nonce : List ℕ) (c k : ℕ) → c + k ≤ counters → keyBytes (16 * k) (startedBy (expanded key) nonce c) ≡ keyBlocks (encrypted key) nonce c k

@@ -7,6 +7,7 @@ use key_schedule::precompute_rkeys;
 use orders::blocks_needed;
 use orders::piece_code;
 use orders::start_code;
+use packing::NUMBER;
 ghost use mathlib.Core.Path.{_≡_};
 ghost use mathlib.Core.Bool.{cond};
 ghost use Prim.Native.Nat.{_+_, _*_, _/_, _%_, _<_, _≤_};
@@ -108,7 +109,7 @@ fn key_block(words: &[u32], nonce: &[u8], counter: usize, block: &mut [u8])
     ensures { λ r. ⌜ now (block .exit) ≡ encryptedBy (now (words .entry)) (counterBlock (now (nonce .entry)) counter) ⌝ }
 {
     counter_block(nonce, counter, block);
-    encrypt_by_words(words, block);
+    encrypt_by_words(NUMBER, words, block);
 }
 
 // Whole blocks, as many as there is room for.

@@ -1,6 +1,6 @@
 -- A block packed, taken through rounds and unpacked; and round words that come from a key.
 use mathlib.Core.Path.{_≡_, ap, _∙_}
-use mathlib.Core.Bool.{Bool, true, false}
+use mathlib.Core.Bool.{Bool, true}
 use mathlib.Core.List.{List}
 use Prim.Native.Nat.{ℕ, _^_, _<_}
 use lib.Dec.{lit≤}
@@ -8,12 +8,11 @@ use lib.ListN.{length, take, replicate}
 use borrow.Author.Tests.{le-leb}
 use Rattle.answers.specs.Order.{ifDone}
 use Rattle.bits.proofs.Computed.{cond-true}
-use Rattle.published.specs.Bytes.{fromBytes, toBytes, Bytes}
+use Rattle.published.specs.Bytes.{Bytes}
+use Rattle.published.specs.Seen.{isOrder, readIn, writeIn, seen}
 use Rattle.published.specs.Rounds.{Pair}
-use Rattle.published.specs.Gift128.{pairsOf, rounds128, unrounds128, encrypted, decrypted}
-use Rattle.published.proofs.Steps.{width128}
-use Rattle.published.proofs.Undone.{rounds-lt, unrounds-lt}
-use Rattle.published.proofs.Gift128.{block-lt}
+use Rattle.published.specs.Gift128.{pairsOf, rounds128}
+use Rattle.published.proofs.Seen.{orders}
 use Rattle.primitives.specs.Packed.{blockOf, stateOf}
 use Rattle.primitives.specs.declared.State.{State}
 use Rattle.primitives.proofs.Blocks.{blockOf-stateOf}
@@ -24,32 +23,29 @@ use Rattle.packing.proofs.Inverse.{packed-block, unpacked-block}
 use Rattle.quintuple.specs.Quintuple.{firstRound}
 use Rattle.key_schedule.specs.Expand.{expandCode, expanded}
 use Rattle.key_schedule.proofs.Expanded.{pairs-of-expanded, length-expanded}
-use Rattle.gift128.specs.Calls.{encryptedBy, decryptedBy}
-use Rattle.gift128.specs.Ways.{roundsBy, crossedBy, crossed}
+use Rattle.gift128.specs.Calls.{roundsAll, roundsBy, roundsOf}
+use Rattle.gift128.proofs.RoundTrip.{rounds-all-lt}
 
--- what f does to the state, the call does to the bytes
-pub through : (f : ℕ → ℕ) (s t : State) (input output e : List ℕ) → ((x : ℕ) → x < 2 ^ 128 → f x < 2 ^ 128) → length input ≡ 16 → Bytes input → length output ≡ 16
-    → s ≡ packed input → t ≡ stateOf (f (blockOf s)) → e ≡ unpacked t output → e ≡ toBytes 16 (f (fromBytes input))
-through f s t input output e f-lt len h len′ packs goes unpacks =
-    let x-lt : fromBytes input < 2 ^ 128 = block-lt input len h in
-    let read : blockOf s ≡ fromBytes input = ap blockOf (packs ∙ packed-block input len) ∙ blockOf-stateOf (fromBytes input) x-lt in
-    unpacks ∙ unpacked-block t output len′
-    ∙ ap (toBytes 16) (ap blockOf (goes ∙ ap (λ (x : ℕ). stateOf (f x)) read) ∙ blockOf-stateOf (f (fromBytes input)) (f-lt (fromBytes input) x-lt))
+-- what f does to the state, the call does to the bytes, seen through their order
+module _ (order : ℕ) (o : isOrder order ≡ true) where
+  pub through : (f : ℕ → ℕ) (s t : State) (input output e : List ℕ) → ((x : ℕ) → x < 2 ^ 128 → f x < 2 ^ 128) → length input ≡ 16 → Bytes input → length output ≡ 16
+      → s ≡ packed order input → t ≡ stateOf (f (blockOf s)) → e ≡ unpacked order t output → e ≡ seen order f input
+  through f s t input output e f-lt len h len′ packs goes unpacks =
+      let x : ℕ = readIn order input in
+      let x-lt : x < 2 ^ 128 = orders order .block input len h in
+      let read : blockOf s ≡ x = ap blockOf (packs ∙ packed-block order input o len) ∙ blockOf-stateOf x x-lt in
+      unpacks ∙ unpacked-block order t output o len′
+      ∙ ap (writeIn order) (ap blockOf (goes ∙ ap (λ (y : ℕ). stateOf (f y)) read) ∙ blockOf-stateOf (f x) (f-lt x x-lt))
 
--- the same by round words, either way: e stands in the output
-pub crossing : (back : Bool) (ws : List ℕ) (s t : State) (input output e : List ℕ) → length input ≡ 16 → Bytes input → length output ≡ 16
-    → s ≡ packed input → t ≡ stateOf (roundsBy back ws (blockOf s)) → e ≡ unpacked t output → e ≡ crossedBy back ws input
-unfolding encryptedBy decryptedBy
-crossing false ws s t input output e len h len′ packs goes unpacks =
-    through (roundsBy false ws) s t input output e (rounds-lt 128 1 width128 (pairsFrom 0 ws) 0) len h len′ packs goes unpacks
-crossing true ws s t input output e len h len′ packs goes unpacks =
-    through (roundsBy true ws) s t input output e (unrounds-lt 128 1 width128 (pairsFrom 0 ws) 0) len h len′ packs goes unpacks
+  -- the same by round words, either way: e stands in the output
+  pub crossing : (back : Bool) (ws : List ℕ) (s t : State) (input output e : List ℕ) → length input ≡ 16 → Bytes input → length output ≡ 16
+      → s ≡ packed order input → t ≡ stateOf (roundsBy back ws (blockOf s)) → e ≡ unpacked order t output → e ≡ seen order (roundsBy back ws) input
+  crossing back ws s t input output e len h len′ packs goes unpacks =
+      through (roundsBy back ws) s t input output e (rounds-all-lt back (pairsFrom 0 ws)) len h len′ packs goes unpacks
 
 -- by the words of a key it is the published cipher
-pub crossed-key : (back : Bool) (key block : List ℕ) → crossedBy back (expanded key) block ≡ crossed back key block
-unfolding encryptedBy encrypted decryptedBy decrypted
-crossed-key false key block = ap (λ (ps : List Pair). toBytes 16 (rounds128 ps 0 (fromBytes block))) (pairs-of-expanded key)
-crossed-key true key block = ap (λ (ps : List Pair). toBytes 16 (unrounds128 ps 0 (fromBytes block))) (pairs-of-expanded key)
+pub crossed-key : (order : ℕ) (back : Bool) (key block : List ℕ) → seen order (roundsBy back (expanded key)) block ≡ seen order (roundsOf back key) block
+crossed-key order back key block = ap (λ (ps : List Pair). seen order (roundsAll back ps) block) (pairs-of-expanded key)
 
 -- eighty zeros lent to expansion by a good key become the key's words
 pub filled : (key : List ℕ) → length key ≡ 16 → ifDone (expandCode (length key) 80) (expanded key) (replicate 80 0) ≡ expanded key

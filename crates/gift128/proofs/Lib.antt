@@ -1,6 +1,7 @@
 -- Laws of the cipher's calls.
 pub mod Answers
+pub mod RoundTrip
 pub mod Blocks
 pub mod Many
-pub mod RoundTrip
+pub mod OrderZero
 pub mod OneOutcome

@@ -3,30 +3,29 @@ use mathlib.Core.List.{List}
 use Prim.Native.Nat.{ℕ}
 use Rattle.answers.specs.Outcome.{OneOutcome}
 use Rattle.answers.proofs.Outcome.{one-outcome}
-use Rattle.published.specs.Calls.{EncryptsByKey, DecryptsByKey}
 use Rattle.key_schedule.specs.Expand.{Expands}
-use Rattle.gift128.specs.Calls.{EncryptsByWords, DecryptsByWords, EncryptsBlocks, DecryptsBlocks, MakesOneRound, MakesCipher, EncryptsBlock, DecryptsBlock}
+use Rattle.gift128.specs.Calls.{EncryptsByKeyIn, DecryptsByKeyIn, EncryptsByWordsIn, DecryptsByWordsIn, EncryptsBlocksIn, DecryptsBlocksIn, MakesOneRound, MakesCipher, EncryptsBlockIn, DecryptsBlockIn}
 
-module _ (key words block input output : List ℕ) where
+module _ (order : ℕ) (key words block input output : List ℕ) where
   pub precompute-rkeys : OneOutcome (Expands key words)
   precompute-rkeys = one-outcome _ _ _
 
-  pub encrypt-by-key : OneOutcome (EncryptsByKey key block)
+  pub encrypt-by-key : OneOutcome (EncryptsByKeyIn order key block)
   encrypt-by-key = one-outcome _ _ _
 
-  pub decrypt-by-key : OneOutcome (DecryptsByKey key block)
+  pub decrypt-by-key : OneOutcome (DecryptsByKeyIn order key block)
   decrypt-by-key = one-outcome _ _ _
 
-  pub encrypt-by-words : OneOutcome (EncryptsByWords words block)
+  pub encrypt-by-words : OneOutcome (EncryptsByWordsIn order words block)
   encrypt-by-words = one-outcome _ _ _
 
-  pub decrypt-by-words : OneOutcome (DecryptsByWords words block)
+  pub decrypt-by-words : OneOutcome (DecryptsByWordsIn order words block)
   decrypt-by-words = one-outcome _ _ _
 
-  pub encrypt-blocks : OneOutcome (EncryptsBlocks key input output)
+  pub encrypt-blocks : OneOutcome (EncryptsBlocksIn order key input output)
   encrypt-blocks = one-outcome _ _ _
 
-  pub decrypt-blocks : OneOutcome (DecryptsBlocks key input output)
+  pub decrypt-blocks : OneOutcome (DecryptsBlocksIn order key input output)
   decrypt-blocks = one-outcome _ _ _
 
   pub one-round : OneOutcome (MakesOneRound key block)
@@ -35,8 +34,8 @@ module _ (key words block input output : List ℕ) where
   pub new : OneOutcome (MakesCipher key)
   new = one-outcome _ _ _
 
-  pub encrypt-block : OneOutcome (EncryptsBlock words block)
+  pub encrypt-block : OneOutcome (EncryptsBlockIn order words block)
   encrypt-block = one-outcome _ _ _
 
-  pub decrypt-block : OneOutcome (DecryptsBlock words block)
+  pub decrypt-block : OneOutcome (DecryptsBlockIn order words block)
   decrypt-block = one-outcome _ _ _

@@ -1,19 +1,26 @@
 -- What each call promises: its number, by its refusals in document 01's order, and what then stands in the buffer that was lent to it.
+use mathlib.Core.Bool.{Bool, true, false}
 use mathlib.Core.List.{List}
 use Prim.Native.Nat.{ℕ, _%_}
 use lib.Dec.{eqb}
 use lib.ListN.{length, take, replicate}
-use Rattle.answers.specs.Numbers.{DONE, BAD_KEY_LENGTH, BAD_BLOCK_LENGTH, BAD_OUTPUT_LENGTH, BAD_WORD_COUNT}
+use Rattle.answers.specs.Numbers.{DONE, BAD_KEY_LENGTH, BAD_BLOCK_LENGTH, BAD_OUTPUT_LENGTH, BAD_WORD_COUNT, BAD_ORDER}
 use Rattle.answers.specs.Order.{unless, ifDone}
 use Rattle.answers.specs.Outcome.{Gives}
 use Rattle.published.specs.Bytes.{readBlock, writeBlock}
-use Rattle.published.specs.Gift128.{pairsOf, rounds128, unrounds128, encrypted, decrypted}
+use Rattle.published.specs.Seen.{isOrder, seen}
+use Rattle.published.specs.Rounds.{Pair}
+use Rattle.published.specs.Gift128.{pairsOf, rounds128, unrounds128}
 use Rattle.published.specs.Calls.{blockCode, keyCode}
 use Rattle.published.specs.Blocks.{allOf}
 use Rattle.round_words.specs.Arranged.{pairsFrom}
 use Rattle.key_schedule.specs.Expand.{expanded}
 
--- ---- the numbers, by the lengths of what is lent
+-- ---- the numbers, by the order's number and the lengths of what is lent
+
+-- each call that takes an order tries it first: 13, and then its own
+unfoldable pub orderCode : (order own : ℕ) → ℕ
+orderCode order own = unless (isOrder order) BAD_ORDER own
 
 -- one block by round words: 4, 2 (by a key, and by a `Gift128`: `keyCode` and `blockCode` of the crate published)
 unfoldable pub wordsCode : (words block : ℕ) → ℕ
@@ -33,7 +40,18 @@ newCode key = unless (eqb key 16) BAD_KEY_LENGTH DONE
 
 -- ---- what a call that is done leaves
 
--- a block by eighty round words, whatever they are: the published rounds by the pairs that they stand for
+-- the forty rounds, done or undone, of a list of pairs; of eighty round words, whatever they are, those that they stand for; of a key, its own
+abbrev pub roundsAll : Bool → List Pair → ℕ → ℕ
+roundsAll false ps = rounds128 ps 0
+roundsAll true ps = unrounds128 ps 0
+
+abbrev pub roundsBy : (back : Bool) (words : List ℕ) → ℕ → ℕ
+roundsBy back words = roundsAll back (pairsFrom 0 words)
+
+abbrev pub roundsOf : (back : Bool) (key : List ℕ) → ℕ → ℕ
+roundsOf back key = roundsAll back (pairsOf key)
+
+-- a block by eighty round words in order 0
 unfoldable pub encryptedBy : List ℕ → List ℕ → List ℕ
 encryptedBy ws block = writeBlock (rounds128 (pairsFrom 0 ws) 0 (readBlock block))
 
@@ -48,19 +66,27 @@ afterOne key block = writeBlock (rounds128 (take 1 (pairsOf key)) 0 (readBlock b
 abbrev pub allBlocks : (List ℕ → List ℕ) → List ℕ → List ℕ
 allBlocks = allOf 16
 
--- ---- the promises: the number, and what the lent buffer holds at exit
+-- ---- the promises: the number, and what the lent buffer holds at exit, the rounds seen through the order
 
-abbrev pub EncryptsByWords : (words block : List ℕ) → ℕ → List ℕ → Type 0
-EncryptsByWords words block = Gives (wordsCode (length words) (length block)) (encryptedBy words block) block
+abbrev pub EncryptsByKeyIn : (order : ℕ) (key block : List ℕ) → ℕ → List ℕ → Type 0
+EncryptsByKeyIn order key block = Gives (orderCode order (keyCode (length key) (length block))) (seen order (roundsOf false key) block) block
 
-abbrev pub DecryptsByWords : (words block : List ℕ) → ℕ → List ℕ → Type 0
-DecryptsByWords words block = Gives (wordsCode (length words) (length block)) (decryptedBy words block) block
+abbrev pub DecryptsByKeyIn : (order : ℕ) (key block : List ℕ) → ℕ → List ℕ → Type 0
+DecryptsByKeyIn order key block = Gives (orderCode order (keyCode (length key) (length block))) (seen order (roundsOf true key) block) block
 
-abbrev pub EncryptsBlocks : (key input output : List ℕ) → ℕ → List ℕ → Type 0
-EncryptsBlocks key input output = Gives (manyCode (length key) (length input) (length output)) (allBlocks (encrypted key) input) output
+abbrev pub EncryptsByWordsIn : (order : ℕ) (words block : List ℕ) → ℕ → List ℕ → Type 0
+EncryptsByWordsIn order words block = Gives (orderCode order (wordsCode (length words) (length block))) (seen order (roundsBy false words) block) block
 
-abbrev pub DecryptsBlocks : (key input output : List ℕ) → ℕ → List ℕ → Type 0
-DecryptsBlocks key input output = Gives (manyCode (length key) (length input) (length output)) (allBlocks (decrypted key) input) output
+abbrev pub DecryptsByWordsIn : (order : ℕ) (words block : List ℕ) → ℕ → List ℕ → Type 0
+DecryptsByWordsIn order words block = Gives (orderCode order (wordsCode (length words) (length block))) (seen order (roundsBy true words) block) block
+
+abbrev pub EncryptsBlocksIn : (order : ℕ) (key input output : List ℕ) → ℕ → List ℕ → Type 0
+EncryptsBlocksIn order key input output =
+    Gives (orderCode order (manyCode (length key) (length input) (length output))) (allBlocks (seen order (roundsOf false key)) input) output
+
+abbrev pub DecryptsBlocksIn : (order : ℕ) (key input output : List ℕ) → ℕ → List ℕ → Type 0
+DecryptsBlocksIn order key input output =
+    Gives (orderCode order (manyCode (length key) (length input) (length output))) (allBlocks (seen order (roundsOf true key)) input) output
 
 abbrev pub MakesOneRound : (key block : List ℕ) → ℕ → List ℕ → Type 0
 MakesOneRound key block = Gives (keyCode (length key) (length block)) (afterOne key block) block
@@ -69,11 +95,11 @@ MakesOneRound key block = Gives (keyCode (length key) (length block)) (afterOne 
 abbrev pub MakesCipher : (key : List ℕ) → ℕ → List ℕ → Type 0
 MakesCipher key = Gives (newCode (length key)) (expanded key) (replicate 80 0)
 
-abbrev pub EncryptsBlock : (words block : List ℕ) → ℕ → List ℕ → Type 0
-EncryptsBlock words block = Gives (blockCode (length block)) (encryptedBy words block) block
+abbrev pub EncryptsBlockIn : (order : ℕ) (words block : List ℕ) → ℕ → List ℕ → Type 0
+EncryptsBlockIn order words block = Gives (orderCode order (blockCode (length block))) (seen order (roundsBy false words) block) block
 
-abbrev pub DecryptsBlock : (words block : List ℕ) → ℕ → List ℕ → Type 0
-DecryptsBlock words block = Gives (blockCode (length block)) (decryptedBy words block) block
+abbrev pub DecryptsBlockIn : (order : ℕ) (words block : List ℕ) → ℕ → List ℕ → Type 0
+DecryptsBlockIn order words block = Gives (orderCode order (blockCode (length block))) (seen order (roundsBy true words) block) block
 
 -- the words of a cipher made from any key
 abbrev pub newWords : List ℕ → List ℕ

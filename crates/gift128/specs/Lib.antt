@@ -1,3 +1,2 @@
 -- What each call of the cipher answers.
 pub mod Calls
-pub mod Ways

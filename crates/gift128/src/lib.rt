@@ -1,11 +1,13 @@
-// GIFT-128: one block and many, by a key, by round words and by a `Gift128`. The two block functions of lib.rs, with refusals.
+// GIFT-128: one block and many, by a key, by round words and by a `Gift128`, in either order. The two block functions of lib.rs, with refusals.
 mod orders;
 
 use answers::DONE;
 use key_schedule::precompute_rkeys;
+use orders::in_order;
 use orders::key_code;
 use orders::many_code;
 use orders::words_code;
+use packing::NUMBER;
 use packing::packing;
 use packing::unpacking;
 use primitives::State;
@@ -13,18 +15,19 @@ use quintuple::first_round;
 use quintuple::inv_quintuple_round;
 use quintuple::quintuple_round;
 ghost use mathlib.Core.Path.{_≡_};
+ghost use mathlib.Core.Bool.{true};
 ghost use Prim.Native.Nat.{_%_};
 ghost use lib.ListN.{length};
 ghost use denote.Ref.{now};
 ghost use Rattle.answers.specs.Outcome.{Gives};
 ghost use Rattle.published.specs.Gift128.{rounds128, unrounds128};
-ghost use Rattle.published.specs.Calls.{keyCode, EncryptsByKey, DecryptsByKey};
+ghost use Rattle.published.specs.Seen.{isOrder, seen};
+ghost use Rattle.published.specs.Calls.{keyCode};
 ghost use Rattle.primitives.specs.Packed.{blockOf, stateOf};
 ghost use Rattle.round_words.specs.Arranged.{pairsFrom};
-ghost use Rattle.gift128.specs.Calls.{wordsCode, manyCode, allBlocks};
-ghost use Rattle.gift128.specs.Calls.{EncryptsByWords, DecryptsByWords, EncryptsBlocks, DecryptsBlocks};
-ghost use Rattle.gift128.specs.Calls.{MakesOneRound, MakesCipher, EncryptsBlock, DecryptsBlock};
-ghost use Rattle.gift128.specs.Ways.{roundsBy, crossedBy, crossed};
+ghost use Rattle.gift128.specs.Calls.{orderCode, wordsCode, manyCode, roundsBy, roundsOf, allBlocks};
+ghost use Rattle.gift128.specs.Calls.{EncryptsByKeyIn, DecryptsByKeyIn, EncryptsByWordsIn, DecryptsByWordsIn, EncryptsBlocksIn, DecryptsBlocksIn};
+ghost use Rattle.gift128.specs.Calls.{MakesOneRound, MakesCipher, EncryptsBlockIn, DecryptsBlockIn};
 
 // A cipher instance: its eighty round words. One made from a refused key has eighty zero words, which are those of the all-zero key.
 #[repr(C)]
@@ -56,19 +59,19 @@ impl Gift128 {
         Made { code, cipher }
     }
 
-    // One block. Refusal: 2.
-    pub fn encrypt_block(self, block: &mut [u8]) -> u32
-        ensures { λ r. ⌜ EncryptsBlock (self .k) (now (block .entry)) r (now (block .exit)) ⌝ }
+    // One block. Refusals: 13, 2.
+    pub fn encrypt_block(self, order: u32, block: &mut [u8]) -> u32
+        ensures { λ r. ⌜ EncryptsBlockIn order (self .k) (now (block .entry)) r (now (block .exit)) ⌝ }
     {
         let k = self.k;
-        encrypt_by_words(&k, block)
+        encrypt_by_words(order, &k, block)
     }
 
-    pub fn decrypt_block(self, block: &mut [u8]) -> u32
-        ensures { λ r. ⌜ DecryptsBlock (self .k) (now (block .entry)) r (now (block .exit)) ⌝ }
+    pub fn decrypt_block(self, order: u32, block: &mut [u8]) -> u32
+        ensures { λ r. ⌜ DecryptsBlockIn order (self .k) (now (block .entry)) r (now (block .exit)) ⌝ }
     {
         let k = self.k;
-        decrypt_by_words(&k, block)
+        decrypt_by_words(order, &k, block)
     }
 }
 
@@ -116,67 +119,68 @@ fn through(s: State, rkey: &[u32], back: bool) -> State
 // ---- one block
 
 // By eighty words, in place.
-fn in_place(rkey: &[u32], block: &mut [u8], back: bool)
+fn in_place(order: u32, rkey: &[u32], block: &mut [u8], back: bool)
+    requires { ⌜ isOrder order ≡ true ⌝ }
     requires { ⌜ length (now rkey) ≡ 80 ⌝ }
     requires { ⌜ length (now block) ≡ 16 ⌝ }
-    ensures { λ r. ⌜ now (block .exit) ≡ crossedBy back (now (rkey .entry)) (now (block .entry)) ⌝ }
+    ensures { λ r. ⌜ now (block .exit) ≡ seen order (roundsBy back (now (rkey .entry))) (now (block .entry)) ⌝ }
 {
-    let s = packing(block);
+    let s = packing(order, block);
     let t = through(s, rkey, back);
-    unpacking(t, block);
+    unpacking(order, t, block);
 }
 
-fn by_words(rkey: &[u32], block: &mut [u8], back: bool) -> u32
-    ensures { λ r. ⌜ Gives (wordsCode (length (now (rkey .entry))) (length (now (block .entry)))) (crossedBy back (now (rkey .entry)) (now (block .entry))) (now (block .entry)) r (now (block .exit)) ⌝ }
+fn by_words(order: u32, rkey: &[u32], block: &mut [u8], back: bool) -> u32
+    ensures { λ r. ⌜ Gives (orderCode order (wordsCode (length (now (rkey .entry))) (length (now (block .entry))))) (seen order (roundsBy back (now (rkey .entry))) (now (block .entry))) (now (block .entry)) r (now (block .exit)) ⌝ }
 {
-    let code = words_code(rkey.len(), block.len());
+    let code = in_order(order, words_code(rkey.len(), block.len()));
     if code != DONE {
         return code;
     }
-    in_place(rkey, block, back);
+    in_place(order, rkey, block, back);
     code
 }
 
-// One block by round words, any eighty. Refusals: 4, 2.
-pub fn encrypt_by_words(rkey: &[u32], block: &mut [u8]) -> u32
-    ensures { λ r. ⌜ EncryptsByWords (now (rkey .entry)) (now (block .entry)) r (now (block .exit)) ⌝ }
+// One block by round words, any eighty. Refusals: 13, 4, 2.
+pub fn encrypt_by_words(order: u32, rkey: &[u32], block: &mut [u8]) -> u32
+    ensures { λ r. ⌜ EncryptsByWordsIn order (now (rkey .entry)) (now (block .entry)) r (now (block .exit)) ⌝ }
 {
-    by_words(rkey, block, false)
+    by_words(order, rkey, block, false)
 }
 
-pub fn decrypt_by_words(rkey: &[u32], block: &mut [u8]) -> u32
-    ensures { λ r. ⌜ DecryptsByWords (now (rkey .entry)) (now (block .entry)) r (now (block .exit)) ⌝ }
+pub fn decrypt_by_words(order: u32, rkey: &[u32], block: &mut [u8]) -> u32
+    ensures { λ r. ⌜ DecryptsByWordsIn order (now (rkey .entry)) (now (block .entry)) r (now (block .exit)) ⌝ }
 {
-    by_words(rkey, block, true)
+    by_words(order, rkey, block, true)
 }
 
-fn by_key(key: &[u8], block: &mut [u8], back: bool) -> u32
-    ensures { λ r. ⌜ Gives (keyCode (length (now (key .entry))) (length (now (block .entry)))) (crossed back (now (key .entry)) (now (block .entry))) (now (block .entry)) r (now (block .exit)) ⌝ }
+fn by_key(order: u32, key: &[u8], block: &mut [u8], back: bool) -> u32
+    ensures { λ r. ⌜ Gives (orderCode order (keyCode (length (now (key .entry))) (length (now (block .entry))))) (seen order (roundsOf back (now (key .entry))) (now (block .entry))) (now (block .entry)) r (now (block .exit)) ⌝ }
 {
-    let code = key_code(key.len(), block.len());
+    let code = in_order(order, key_code(key.len(), block.len()));
     if code != DONE {
         return code;
     }
     let mut rkey = [0u32; 80];
     precompute_rkeys(key, &mut rkey);
-    in_place(&rkey, block, back);
+    in_place(order, &rkey, block, back);
     code
 }
 
-// One block by a key. Refusals: 1, 2.
-pub fn encrypt_by_key(key: &[u8], block: &mut [u8]) -> u32
-    ensures { λ r. ⌜ EncryptsByKey (now (key .entry)) (now (block .entry)) r (now (block .exit)) ⌝ }
+// One block by a key. Refusals: 13, 1, 2.
+pub fn encrypt_by_key(order: u32, key: &[u8], block: &mut [u8]) -> u32
+    ensures { λ r. ⌜ EncryptsByKeyIn order (now (key .entry)) (now (block .entry)) r (now (block .exit)) ⌝ }
 {
-    by_key(key, block, false)
+    by_key(order, key, block, false)
 }
 
-pub fn decrypt_by_key(key: &[u8], block: &mut [u8]) -> u32
-    ensures { λ r. ⌜ DecryptsByKey (now (key .entry)) (now (block .entry)) r (now (block .exit)) ⌝ }
+pub fn decrypt_by_key(order: u32, key: &[u8], block: &mut [u8]) -> u32
+    ensures { λ r. ⌜ DecryptsByKeyIn order (now (key .entry)) (now (block .entry)) r (now (block .exit)) ⌝ }
 {
-    by_key(key, block, true)
+    by_key(order, key, block, true)
 }
 
-// The state after round 1, by a key. Refusals: 1, 2.
+// The state after round 1, by a key, in order 0. Refusals: 1, 2.
 pub fn one_round(key: &[u8], block: &mut [u8]) -> u32
     ensures { λ r. ⌜ MakesOneRound (now (key .entry)) (now (block .entry)) r (now (block .exit)) ⌝ }
 {
@@ -186,63 +190,66 @@ pub fn one_round(key: &[u8], block: &mut [u8]) -> u32
     }
     let mut rkey = [0u32; 80];
     precompute_rkeys(key, &mut rkey);
-    let s = packing(block);
+    let s = packing(NUMBER, block);
     let once = first_round(s, &rkey);
-    unpacking(once, block);
+    unpacking(NUMBER, once, block);
     code
 }
 
 // ---- many blocks
 
 // One block by eighty words, from one buffer to another.
-fn into(rkey: &[u32], input: &[u8], output: &mut [u8], back: bool)
+fn into(order: u32, rkey: &[u32], input: &[u8], output: &mut [u8], back: bool)
+    requires { ⌜ isOrder order ≡ true ⌝ }
     requires { ⌜ length (now rkey) ≡ 80 ⌝ }
     requires { ⌜ length (now input) ≡ 16 ⌝ }
     requires { ⌜ length (now output) ≡ 16 ⌝ }
-    ensures { λ r. ⌜ now (output .exit) ≡ crossedBy back (now (rkey .entry)) (now (input .entry)) ⌝ }
+    ensures { λ r. ⌜ now (output .exit) ≡ seen order (roundsBy back (now (rkey .entry))) (now (input .entry)) ⌝ }
 {
-    let s = packing(input);
+    let s = packing(order, input);
     let t = through(s, rkey, back);
-    unpacking(t, output);
+    unpacking(order, t, output);
 }
 
 // Block n of the output from block n of the input.
-fn all(rkey: &[u32], input: &[u8], output: &mut [u8], back: bool)
+fn all(order: u32, rkey: &[u32], input: &[u8], output: &mut [u8], back: bool)
+    requires { ⌜ isOrder order ≡ true ⌝ }
     requires { ⌜ length (now rkey) ≡ 80 ⌝ }
     requires { ⌜ length (now input) % 16 ≡ 0 ⌝ }
     requires { ⌜ length (now output) ≡ length (now input) ⌝ }
-    ensures { λ r. ⌜ now (output .exit) ≡ allBlocks (crossedBy back (now (rkey .entry))) (now (input .entry)) ⌝ }
+    ensures { λ r. ⌜ now (output .exit) ≡ allBlocks (seen order (roundsBy back (now (rkey .entry)))) (now (input .entry)) ⌝ }
 {
     let mut a: usize = 0;
     while a < input.len() {
         let e = a + 16;
-        into(rkey, &input[a..e], &mut output[a..e], back);
+        into(order, rkey, &input[a..e], &mut output[a..e], back);
         a = e;
     }
 }
 
-fn many_by_key(key: &[u8], input: &[u8], output: &mut [u8], back: bool) -> u32
-    ensures { λ r. ⌜ Gives (manyCode (length (now (key .entry))) (length (now (input .entry))) (length (now (output .entry)))) (allBlocks (crossed back (now (key .entry))) (now (input .entry))) (now (output .entry)) r (now (output .exit)) ⌝ }
+fn many_by_key(order: u32, key: &[u8], input: &[u8], output: &mut [u8], back: bool) -> u32
+    ensures { λ r. ⌜ Gives (orderCode order (manyCode (length (now (key .entry))) (length (now (input .entry))) (length (now (output .entry))))) (allBlocks (seen order (roundsOf back (now (key .entry)))) (now (input .entry))) (now (output .entry)) r (now (output .exit)) ⌝ }
 {
-    let code = many_code(key.len(), input.len(), output.len());
+    let own = many_code(key.len(), input.len(), output.len());
+    let code = in_order(order, own);
     if code != DONE {
         return code;
     }
     let mut rkey = [0u32; 80];
     precompute_rkeys(key, &mut rkey);
-    all(&rkey, input, output, back);
+    all(order, &rkey, input, output, back);
     code
 }
 
-// Many blocks by a key. Refusals: 1, 2, 3.
-pub fn encrypt_blocks(key: &[u8], input: &[u8], output: &mut [u8]) -> u32
-    ensures { λ r. ⌜ EncryptsBlocks (now (key .entry)) (now (input .entry)) (now (output .entry)) r (now (output .exit)) ⌝ }
+// Many blocks by a key. Refusals: 13, 1, 2, 3.
+pub fn encrypt_blocks(order: u32, key: &[u8], input: &[u8], output: &mut [u8]) -> u32
+    ensures { λ r. ⌜ EncryptsBlocksIn order (now (key .entry)) (now (input .entry)) (now (output .entry)) r (now (output .exit)) ⌝ }
 {
-    many_by_key(key, input, output, false)
+    many_by_key(order, key, input, output, false)
 }
 
-pub fn decrypt_blocks(key: &[u8], input: &[u8], output: &mut [u8]) -> u32
-    ensures { λ r. ⌜ DecryptsBlocks (now (key .entry)) (now (input .entry)) (now (output .entry)) r (now (output .exit)) ⌝ }
+pub fn decrypt_blocks(order: u32, key: &[u8], input: &[u8], output: &mut [u8]) -> u32
+    ensures { λ r. ⌜ DecryptsBlocksIn order (now (key .entry)) (now (input .entry)) (now (output .entry)) r (now (output .exit)) ⌝ }
 {
-    many_by_key(key, input, output, true)
+    many_by_key(order, key, input, output, true)
 }

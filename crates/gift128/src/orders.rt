@@ -1,13 +1,25 @@
-// The number that each call gives, by the lengths of what is lent: its refusals, tried in document 01's order, and nothing else.
+// The number that each call gives, by the order's number and the lengths of what is lent: its refusals, tried in the documents' order, and nothing else.
 use crate::Gift128;
 use answers::BAD_BLOCK_LENGTH;
 use answers::BAD_KEY_LENGTH;
+use answers::BAD_ORDER;
 use answers::BAD_OUTPUT_LENGTH;
 use answers::BAD_WORD_COUNT;
 use answers::DONE;
+use packing::is_order;
 ghost use mathlib.Core.Path.{_≡_};
 ghost use Rattle.published.specs.Calls.{blockCode, keyCode};
-ghost use Rattle.gift128.specs.Calls.{wordsCode, manyCode};
+ghost use Rattle.gift128.specs.Calls.{orderCode, wordsCode, manyCode};
+
+// 13, and then the call's own number.
+pub(crate) fn in_order(order: u32, own: u32) -> u32
+    ensures { λ r. ⌜ r ≡ orderCode order own ⌝ }
+{
+    if !is_order(order) {
+        return BAD_ORDER;
+    }
+    own
+}
 
 // One block by a `Gift128`: 2.
 fn block_code(block: usize) -> u32

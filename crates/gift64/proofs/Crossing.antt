@@ -13,14 +13,14 @@ use Rattle.published.specs.Blocks.{eachOf, allOf}
 use Rattle.published.proofs.Gift64.{block-lt-64}
 use Rattle.primitives.specs.declared.State.{State}
 use Rattle.primitives.specs.Packed.{blockOf64, stateOf64}
-use Rattle.primitives.proofs.Blocks.{block-of-words}
+use Rattle.primitives.proofs.Blocks.{blockFrom-stateFrom}
 use Rattle.packing.specs.Packing.{packed64, unpacked64}
 use Rattle.packing.proofs.Small.{packed-eight, unpacked-eight}
 use Rattle.gift64.specs.Inner.{pairsIn, roundsBy, crossedBy, crossed}
 
 block-of-state : (x : ℕ) → x < 2 ^ 64 → blockOf64 (stateOf64 x) ≡ x
 unfolding blockOf64 stateOf64
-block-of-state = block-of-words 64 refl
+block-of-state = blockFrom-stateFrom 64 refl
 
 -- what the rounds do to the state, the call does to the bytes: e stands in the output
 pub crossing : (back : Bool) (ws : List ℕ) (s t : State) (input output e : List ℕ) → length input ≡ 8 → Bytes input → length output ≡ 8

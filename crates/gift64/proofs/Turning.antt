@@ -13,11 +13,12 @@ use Rattle.published.specs.Rounds.{Pair, entry, constant, round, unround}
 use Rattle.published.specs.Inner.{back, unentry}
 use Rattle.published.proofs.Undone.{unround-round}
 use Rattle.published.proofs.Gift64.{width64}
+use Rattle.published.proofs.Words.{four}
 use Rattle.primitives.specs.declared.State.{State}
 use Rattle.primitives.specs.Words.{permuted}
 use Rattle.primitives.specs.Packed.{wordOf, Words}
 use Rattle.primitives.proofs.Moves.{bit-permuted, permuted-lt, permuted-id, permuted-then}
-use Rattle.primitives.proofs.Blocks.{four, same-words}
+use Rattle.primitives.proofs.Blocks.{same-words}
 use Rattle.quintuple.specs.Boxes.{substituted, boxed}
 use Rattle.quintuple.specs.Inner.{exchangedOf}
 use Rattle.quintuple.proofs.Sliced.{blockAt-lt, keyWord, key-bits, sliced-round, back-again, xor-twice}

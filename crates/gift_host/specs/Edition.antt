@@ -2,4 +2,4 @@
 use Prim.Native.Nat.{ℕ}
 
 abbrev pub edition : ℕ
-edition = 4
+edition = 5

@@ -11,14 +11,14 @@ ghost use denote.Ref.{now};
 ghost use Rattle.published.specs.Calls.{EncryptsByKey, DecryptsByKey};
 ghost use Rattle.published.specs.Calls64.{EncryptsByKey64, DecryptsByKey64, EncryptsBlocks64, DecryptsBlocks64};
 ghost use Rattle.key_schedule.specs.Expand.{Expands};
-ghost use Rattle.gift128.specs.Calls.{EncryptsByWords, DecryptsByWords, EncryptsBlocks, DecryptsBlocks};
+ghost use Rattle.gift128.specs.Calls.{EncryptsByKeyIn, DecryptsByKeyIn, EncryptsByWordsIn, DecryptsByWordsIn, EncryptsBlocksIn, DecryptsBlocksIn};
 ghost use Rattle.counter.specs.Calls.{Starts as StartsStream, Feeds as FeedsStream};
 ghost use Rattle.cmac.specs.Calls.{TagsWhole, Checks, Starts, Feeds, TagsState};
 ghost use Rattle.bench_lent.specs.Lent.{Opens, Serves, Takes, Closes};
 ghost use Rattle.gift_host.specs.Edition.{edition};
 
 // The edition of records, arguments and counts that this library has. GIFT_HOST_EDITION in the header is the one that a host was compiled for.
-const EDITION: u32 = 4;
+const EDITION: u32 = 5;
 
 #[no_mangle]
 pub extern "C" fn gift_host_edition() -> u32
@@ -27,22 +27,22 @@ pub extern "C" fn gift_host_edition() -> u32
     EDITION
 }
 
-// One block by a key, in place. Refusals: 1, 2.
+// One block by a key, in place. Refusals: 13, 1, 2.
 #[no_mangle]
-pub extern "C" fn gift_encrypt_by_key(key: &[u8], block: &mut [u8]) -> u32
-    ensures { λ r. ⌜ EncryptsByKey (now (key .entry)) (now (block .entry)) r (now (block .exit)) ⌝ }
+pub extern "C" fn gift_encrypt_by_key(order: u32, key: &[u8], block: &mut [u8]) -> u32
+    ensures { λ r. ⌜ EncryptsByKeyIn order (now (key .entry)) (now (block .entry)) r (now (block .exit)) ⌝ }
 {
-    gift128::encrypt_by_key(key, block)
+    gift128::encrypt_by_key(order, key, block)
 }
 
 #[no_mangle]
-pub extern "C" fn gift_decrypt_by_key(key: &[u8], block: &mut [u8]) -> u32
-    ensures { λ r. ⌜ DecryptsByKey (now (key .entry)) (now (block .entry)) r (now (block .exit)) ⌝ }
+pub extern "C" fn gift_decrypt_by_key(order: u32, key: &[u8], block: &mut [u8]) -> u32
+    ensures { λ r. ⌜ DecryptsByKeyIn order (now (key .entry)) (now (block .entry)) r (now (block .exit)) ⌝ }
 {
-    gift128::decrypt_by_key(key, block)
+    gift128::decrypt_by_key(order, key, block)
 }
 
-// The same by the plain engine, which is written to be read and not to be fast. Refusals: 1, 2.
+// The same by the plain engine, which is written to be read and not to be fast, and knows order 0 alone. Refusals: 1, 2.
 #[no_mangle]
 pub extern "C" fn gift_plain_encrypt_by_key(key: &[u8], block: &mut [u8]) -> u32
     ensures { λ r. ⌜ EncryptsByKey (now (key .entry)) (now (block .entry)) r (now (block .exit)) ⌝ }
@@ -57,19 +57,19 @@ pub extern "C" fn gift_plain_decrypt_by_key(key: &[u8], block: &mut [u8]) -> u32
     plain::decrypt_by_key(key, block)
 }
 
-// One block by round words, any eighty, in place. Refusals: 4, 2.
+// One block by round words, any eighty, in place. Refusals: 13, 4, 2.
 #[no_mangle]
-pub extern "C" fn gift_encrypt_by_words(words: &[u32], block: &mut [u8]) -> u32
-    ensures { λ r. ⌜ EncryptsByWords (now (words .entry)) (now (block .entry)) r (now (block .exit)) ⌝ }
+pub extern "C" fn gift_encrypt_by_words(order: u32, words: &[u32], block: &mut [u8]) -> u32
+    ensures { λ r. ⌜ EncryptsByWordsIn order (now (words .entry)) (now (block .entry)) r (now (block .exit)) ⌝ }
 {
-    gift128::encrypt_by_words(words, block)
+    gift128::encrypt_by_words(order, words, block)
 }
 
 #[no_mangle]
-pub extern "C" fn gift_decrypt_by_words(words: &[u32], block: &mut [u8]) -> u32
-    ensures { λ r. ⌜ DecryptsByWords (now (words .entry)) (now (block .entry)) r (now (block .exit)) ⌝ }
+pub extern "C" fn gift_decrypt_by_words(order: u32, words: &[u32], block: &mut [u8]) -> u32
+    ensures { λ r. ⌜ DecryptsByWordsIn order (now (words .entry)) (now (block .entry)) r (now (block .exit)) ⌝ }
 {
-    gift128::decrypt_by_words(words, block)
+    gift128::decrypt_by_words(order, words, block)
 }
 
 // The eighty round words of a key. Refusals: 1, 4.
@@ -80,22 +80,32 @@ pub extern "C" fn gift_expand(key: &[u8], words: &mut [u32]) -> u32
     key_schedule::precompute_rkeys(key, words)
 }
 
-// Many blocks by a key, from one buffer to another. Refusals: 1, 2, 3.
+// Many blocks by a key, from one buffer to another. Refusals: 13, 1, 2, 3.
 #[no_mangle]
-pub extern "C" fn gift_encrypt_blocks(key: &[u8], input: &[u8], output: &mut [u8]) -> u32
-    ensures { λ r. ⌜ EncryptsBlocks (now (key .entry)) (now (input .entry)) (now (output .entry)) r (now (output .exit)) ⌝ }
+pub extern "C" fn gift_encrypt_blocks(
+    order: u32,
+    key: &[u8],
+    input: &[u8],
+    output: &mut [u8],
+) -> u32
+    ensures { λ r. ⌜ EncryptsBlocksIn order (now (key .entry)) (now (input .entry)) (now (output .entry)) r (now (output .exit)) ⌝ }
 {
-    gift128::encrypt_blocks(key, input, output)
+    gift128::encrypt_blocks(order, key, input, output)
 }
 
 #[no_mangle]
-pub extern "C" fn gift_decrypt_blocks(key: &[u8], input: &[u8], output: &mut [u8]) -> u32
-    ensures { λ r. ⌜ DecryptsBlocks (now (key .entry)) (now (input .entry)) (now (output .entry)) r (now (output .exit)) ⌝ }
+pub extern "C" fn gift_decrypt_blocks(
+    order: u32,
+    key: &[u8],
+    input: &[u8],
+    output: &mut [u8],
+) -> u32
+    ensures { λ r. ⌜ DecryptsBlocksIn order (now (key .entry)) (now (input .entry)) (now (output .entry)) r (now (output .exit)) ⌝ }
 {
-    gift128::decrypt_blocks(key, input, output)
+    gift128::decrypt_blocks(order, key, input, output)
 }
 
-// The bench over the host's own records. Opening: 10, 5, 6, 11, 9, 1, 2.
+// The bench over the host's own records. Opening: 10, 5, 6, 11, 9, 13, 1, 2.
 #[no_mangle]
 pub extern "C" fn gift_open_lane(
     lanes: &mut [Lane],
@@ -103,12 +113,13 @@ pub extern "C" fn gift_open_lane(
     lane: u32,
     owner: u16,
     direction: u32,
+    order: u32,
     key: &[u8],
     block: &[u8],
 ) -> u32
-    ensures { λ r. ⌜ Opens (now (lanes .entry)) last lane owner direction (now (key .entry)) (now (block .entry)) r (now (lanes .exit)) ⌝ }
+    ensures { λ r. ⌜ Opens (now (lanes .entry)) last lane owner direction order (now (key .entry)) (now (block .entry)) r (now (lanes .exit)) ⌝ }
 {
-    bench_lent::open_lane(lanes, last, lane, owner, direction, key, block)
+    bench_lent::open_lane(lanes, last, lane, owner, direction, order, key, block)
 }
 
 // Turns: 10, 8. The last served number goes in, and comes back.

@@ -8,15 +8,14 @@ use native.Mathlib.Decide.{ℕ-discrete, decLe}
 use native.Mathlib.Omega.{arith}
 use lib.Dec.{eqb, leb, ltb}
 use lib.ListN.{length, replicate}
-use borrow.Author.Tests.{lt-ltb, le-ltb, le-leb, lt-leb, eq-eqb, ne-eqb, eqb-true, eqb-false, leb-true, not-true}
+use borrow.Author.Tests.{lt-ltb, le-ltb, le-leb, lt-leb, ne-eqb, eqb-true, eqb-false, leb-true, not-true}
 use Rattle.answers.specs.Order.{ifDone}
 use Rattle.bits.proofs.Computed.{cond-true}
 use Rattle.bits.proofs.Truth.{both, together, cond-either}
-use Rattle.published.specs.Bytes.{fromBytes, toBytes}
+use Rattle.published.specs.Seen.{isOrder, readIn, writeIn}
 use Rattle.primitives.specs.declared.State.{State}
 use Rattle.primitives.specs.Packed.{blockOf, stateOf}
-use Rattle.packing.specs.Packing.{unpacked}
-use Rattle.packing.proofs.Inverse.{packed-block}
+use Rattle.packing.proofs.Inverse.{packed-block, unpacked-block}
 use Rattle.key_schedule.specs.Expand.{expanded}
 use Rattle.gift128.specs.Calls.{newCode}
 use Rattle.lane.specs.declared.Lane.{Lane}
@@ -24,35 +23,41 @@ use Rattle.lane.specs.Record.{running, finished, idle, idleLane, everyth
 use Rattle.lane.proofs.Zero.{idle-is-zero}
 
 -- what makes a busy record sound
-pub busy-is : (l : Lane) → l .phase ≢ idle → soundLane l ≡ (not (eqb (l .owner) 0) && leb (l .direction) 1 && soundCount (l .phase) (l .count))
+pub busy-is : (l : Lane) → l .phase ≢ idle → soundLane l ≡ (not (eqb (l .owner) 0) && leb (l .direction) 1 && isOrder (l .order) && soundCount (l .phase) (l .count))
 unfolding soundLane everything allZero
 busy-is l busy = rw (ne-eqb (l .phase) 0 busy)
+
+-- with an owner and a direction it is sound as its order and its count are
+pub busy-ordered : (l : Lane) {t : Bool} → l .phase ≢ idle → l .owner ≢ 0 → l .direction ≤ 1 → isOrder (l .order) ≡ t → soundLane l ≡ (t && soundCount (l .phase) (l .count))
+busy-ordered l busy owned way e = busy-is l busy ∙ (rw (ne-eqb (l .owner) 0 owned, le-leb (l .direction) 1 way, e))
 
 -- a busy record that is sound, as facts
 pub record Tidy (l : Lane) : Type 0 where
   pub owned : l .owner ≢ 0
   pub directed : leb (l .direction) 1 ≡ true
+  pub ordered : isOrder (l .order) ≡ true
   pub counted : soundCount (l .phase) (l .count) ≡ true
 
 pub tidy : (l : Lane) → soundLane l ≡ true → l .phase ≢ idle → Tidy l
 tidy l s busy =
     let two : Bool = not (eqb (l .owner) 0) && leb (l .direction) 1 in
-    let h : (two ≡ true) × (soundCount (l .phase) (l .count) ≡ true) = both two (soundCount (l .phase) (l .count)) (sym (busy-is l busy) ∙ s) in
-    let g : (not (eqb (l .owner) 0) ≡ true) × (leb (l .direction) 1 ≡ true) = both (not (eqb (l .owner) 0)) (leb (l .direction) 1) (h .0) in
-    record { owned = eqb-false (l .owner) 0 (not-true _ (g .0)); directed = g .1; counted = h .1 }
+    let h : (two && isOrder (l .order) ≡ true) × (soundCount (l .phase) (l .count) ≡ true) = both (two && isOrder (l .order)) (soundCount (l .phase) (l .count)) (sym (busy-is l busy) ∙ s) in
+    let f : (two ≡ true) × (isOrder (l .order) ≡ true) = both two (isOrder (l .order)) (h .0) in
+    let g : (not (eqb (l .owner) 0) ≡ true) × (leb (l .direction) 1 ≡ true) = both (not (eqb (l .owner) 0)) (leb (l .direction) 1) (f .0) in
+    record { owned = eqb-false (l .owner) 0 (not-true _ (g .0)); directed = g .1; ordered = f .1; counted = h .1 }
 
 pub tidy-sound : (l : Lane) → l .phase ≢ idle → Tidy l → soundLane l ≡ true
 tidy-sound l busy t =
     busy-is l busy
     ∙ together _ (soundCount (l .phase) (l .count))
-    (together _ (leb (l .direction) 1) (ap not (ne-eqb (l .owner) 0 (t .owned))) (t .directed)) (t .counted)
+    (together _ (isOrder (l .order)) (together _ (leb (l .direction) 1) (ap not (ne-eqb (l .owner) 0 (t .owned))) (t .directed)) (t .ordered)) (t .counted)
 
 -- and an idle one
 pub idle-is : (l : Lane) → l .phase ≡ idle → soundLane l ≡ allZero (everything l)
 unfolding soundLane soundCount
 idle-is l e =
-    let two : Bool = not (eqb (l .owner) 0) && leb (l .direction) 1 in
-    ap (λ (t : Bool). allZero (everything l) || t) (ap (λ (p : ℕ). two && soundCount p (l .count)) e ∙ and-false two)
+    let three : Bool = not (eqb (l .owner) 0) && leb (l .direction) 1 && isOrder (l .order) in
+    ap (λ (t : Bool). allZero (everything l) || t) (ap (λ (p : ℕ). three && soundCount p (l .count)) e ∙ and-false three)
     ∙ or-false (allZero (everything l))
 
 -- the idle lane is sound
@@ -129,13 +134,14 @@ next l =
       direction = l .direction;
       owner = l .owner;
       count = l .count + 1;
+      order = l .order;
       words = l .words;
       state = advanced l;
     }
 
 -- the same by its parts: the last turn, and one before it
 pub served-by : (l : Lane) (phase : ℕ) (state : State) → l .count < 8 → phase ≡ cond (eqb (l .count + 1) 8) finished running → state ≡ advanced l
-    → record { phase = phase; direction = l .direction; owner = l .owner; count = l .count + 1; words = l .words; state = state } ≡ served l
+    → record { phase = phase; direction = l .direction; owner = l .owner; count = l .count + 1; order = l .order; words = l .words; state = state } ≡ served l
 unfolding served
 served-by l phase state h p s = rw (p, s) (sym (cond-true (ltb (l .count) 8) (next l) l (lt-ltb (l .count) 8 h)))
 
@@ -165,7 +171,7 @@ module _ (l : Lane) (sound : soundLane l ≡ true) (runs : l .phase ≡ running)
       cond-either (λ (p : ℕ). soundCount p (l .count + 1) ≡ true) (eqb (l .count + 1) 8) finished running
       (λ e. e)
       (λ e. le-leb (l .count + 1) 7 (omega (arith, running-count l sound runs, eqb-false (l .count + 1) 8 e))) in
-      let more : Tidy (next l) = record { owned = t .owned; directed = t .directed; counted = counted } in
+      let more : Tidy (next l) = record { owned = t .owned; directed = t .directed; ordered = t .ordered; counted = counted } in
       tidy-sound (served l) served-busy (rw served-next more)
 
   pub served-lacks : suc (lacks (served l)) ≡ lacks l
@@ -193,21 +199,23 @@ eight-finished l s e =
     go (suc (suc zero)) h = refl
     go (suc (suc (suc p))) h = absurd (false≢true h)
 
--- by a key and a block of 16 bytes, a lane is opened on the key's words and the block's
-pub opened-on : (owner direction : ℕ) (key block : List ℕ) → length key ≡ 16 → length block ≡ 16
-    → opened owner direction key block ≡ record { phase = running; direction = direction; owner = owner; count = 0; words = expanded key; state = stateOf (fromBytes block) }
+-- by a key and a block of 16 bytes, a lane is opened on the key's words and those of the block that its order sees
+pub opened-on : (owner direction order : ℕ) (key block : List ℕ) → isOrder order ≡ true → length key ≡ 16 → length block ≡ 16
+    → opened owner direction order key block
+    ≡ record { phase = running; direction = direction; owner = owner; count = 0; order = order; words = expanded key; state = stateOf (readIn order block) }
 unfolding opened newCode
-opened-on owner direction key block k b =
+opened-on owner direction order key block o k b =
     λ i. record {
       phase = running;
       direction = direction;
       owner = owner;
       count = 0;
+      order = order;
       words = ap (λ (n : ℕ). ifDone (newCode n) (expanded key) (replicate 80 0)) k i;
-      state = packed-block block b i;
+      state = packed-block order block o b i;
     }
 
 -- what a lane yields into 16 bytes
-pub yielded-bytes : (l : Lane) (out : List ℕ) → length out ≡ 16 → yielded l out ≡ toBytes 16 (blockOf (l .state))
-unfolding yielded unpacked
-yielded-bytes l out e = cond-true (eqb (length out) 16) _ out (eq-eqb (length out) 16 e)
+pub yielded-bytes : (l : Lane) (out : List ℕ) → isOrder (l .order) ≡ true → length out ≡ 16 → yielded l out ≡ writeIn (l .order) (blockOf (l .state))
+unfolding yielded
+yielded-bytes l out o e = unpacked-block (l .order) (l .state) out o e

@@ -36,7 +36,7 @@ module _ (ws : List ℕ) (bits i : ℕ) (so-far : (eqb bits 0 && allZero (drop i
 
 -- or-ing everything in a record
 pub zero-or : (l : Lane) (w : ℕ) → eqb w 0 ≡ allZero (l .words)
-    → eqb (bitOr (bitOr (bitOr (bitOr (bitOr (l .phase) (l .direction)) (l .owner)) (l .count)) (bitOr (bitOr (bitOr (l .state .s0) (l .state .s1)) (l .state .s2)) (l .state .s3))) w) 0
+    → eqb (bitOr (bitOr (bitOr (bitOr (bitOr (bitOr (l .phase) (l .direction)) (l .owner)) (l .count)) (l .order)) (bitOr (bitOr (bitOr (l .state .s0) (l .state .s1)) (l .state .s2)) (l .state .s3))) w) 0
     ≡ allZero (everything l)
 unfolding everything allZero
 zero-or l w e = simp (or-nothing, and-assoc, e)
@@ -62,21 +62,23 @@ zero-is-idle l long e =
     let p2 = both (eqb (l .direction) 0) _ (p1 .1) in
     let p3 = both (eqb (l .owner) 0) _ (p2 .1) in
     let p4 = both (eqb (l .count) 0) _ (p3 .1) in
-    let p5 = both (eqb (l .state .s0) 0) _ (p4 .1) in
-    let p6 = both (eqb (l .state .s1) 0) _ (p5 .1) in
-    let p7 = both (eqb (l .state .s2) 0) _ (p6 .1) in
-    let p8 = both (eqb (l .state .s3) 0) (allZero (l .words)) (p7 .1) in
+    let p5 = both (eqb (l .order) 0) _ (p4 .1) in
+    let p6 = both (eqb (l .state .s0) 0) _ (p5 .1) in
+    let p7 = both (eqb (l .state .s1) 0) _ (p6 .1) in
+    let p8 = both (eqb (l .state .s2) 0) _ (p7 .1) in
+    let p9 = both (eqb (l .state .s3) 0) (allZero (l .words)) (p8 .1) in
     λ i. record {
       phase = eqb-true (l .phase) 0 (p1 .0) i;
       direction = eqb-true (l .direction) 0 (p2 .0) i;
       owner = eqb-true (l .owner) 0 (p3 .0) i;
       count = eqb-true (l .count) 0 (p4 .0) i;
-      words = (zeros (l .words) (p8 .1) ∙ ap (λ (n : ℕ). replicate n 0) long) i;
+      order = eqb-true (l .order) 0 (p5 .0) i;
+      words = (zeros (l .words) (p9 .1) ∙ ap (λ (n : ℕ). replicate n 0) long) i;
       state = record {
-        s0 = eqb-true (l .state .s0) 0 (p5 .0) i;
-        s1 = eqb-true (l .state .s1) 0 (p6 .0) i;
-        s2 = eqb-true (l .state .s2) 0 (p7 .0) i;
-        s3 = eqb-true (l .state .s3) 0 (p8 .0) i;
+        s0 = eqb-true (l .state .s0) 0 (p6 .0) i;
+        s1 = eqb-true (l .state .s1) 0 (p7 .0) i;
+        s2 = eqb-true (l .state .s2) 0 (p8 .0) i;
+        s3 = eqb-true (l .state .s3) 0 (p9 .0) i;
       };
     }
 

@@ -4,6 +4,7 @@ use mathlib.Core.List.{List, [], _∷_}
 use Prim.Native.Nat.{ℕ, zero, suc, _+_, _-_, _*_}
 use lib.Dec.{eqb, leb, ltb}
 use lib.ListN.{drop, replicate}
+use Rattle.published.specs.Seen.{isOrder}
 use Rattle.primitives.specs.declared.State.{State}
 use Rattle.packing.specs.Packing.{noWords, packed, unpacked}
 use Rattle.quintuple.specs.Quintuple.{quintupled, unquintupled}
@@ -21,11 +22,11 @@ finished = 2
 
 -- An idle lane is all zero: a fresh one, and one that was taken from or closed.
 unfoldable pub idleLane : Lane
-idleLane = record { phase = idle; direction = 0; owner = 0; count = 0; words = replicate 80 0; state = noWords }
+idleLane = record { phase = idle; direction = 0; owner = 0; count = 0; order = 0; words = replicate 80 0; state = noWords }
 
 -- everything in a record, and whether it is all zero
 unfoldable pub everything : Lane → List ℕ
-everything l = l .phase ∷ l .direction ∷ l .owner ∷ l .count ∷ l .state .s0 ∷ l .state .s1 ∷ l .state .s2 ∷ l .state .s3 ∷ l .words
+everything l = l .phase ∷ l .direction ∷ l .owner ∷ l .count ∷ l .order ∷ l .state .s0 ∷ l .state .s1 ∷ l .state .s2 ∷ l .state .s3 ∷ l .words
 
 unfoldable pub allZero : List ℕ → Bool
 allZero [] = true
@@ -38,18 +39,18 @@ soundCount (suc zero) c = leb c 7
 soundCount (suc (suc zero)) c = eqb c 8
 soundCount (suc (suc (suc p))) c = false
 
--- all zero, or busy with an owner and direction 0 or 1: the owner is 0 exactly where the lane is idle
+-- all zero, or busy with an owner, direction 0 or 1 and an order that there is: the owner is 0 exactly where the lane is idle
 unfoldable pub soundLane : Lane → Bool
-soundLane l = allZero (everything l) || not (eqb (l .owner) 0) && leb (l .direction) 1 && soundCount (l .phase) (l .count)
+soundLane l = allZero (everything l) || not (eqb (l .owner) 0) && leb (l .direction) 1 && isOrder (l .order) && soundCount (l .phase) (l .count)
 
 -- An idle lane is open to anyone, a busy one to its owner.
 unfoldable pub admits : Lane → (caller : ℕ) → Bool
 admits l caller = eqb (l .phase) idle || eqb (l .owner) caller
 
--- Opening: the owner's, the key expanded, the block packed.
-unfoldable pub opened : (owner direction : ℕ) (key block : List ℕ) → Lane
-opened owner direction key block =
-    record { phase = running; direction = direction; owner = owner; count = 0; words = newWords key; state = packed block }
+-- Opening: the owner's, the key expanded, the block packed as the order has it.
+unfoldable pub opened : (owner direction order : ℕ) (key block : List ℕ) → Lane
+opened owner direction order key block =
+    record { phase = running; direction = direction; owner = owner; count = 0; order = order; words = newWords key; state = packed order block }
 
 -- One quintuple round more: forward at offset 5·count, or back at offset 35 − 5·count, over the words that start at twice the offset.
 unfoldable pub advanced : Lane → State
@@ -67,6 +68,7 @@ served l =
       direction = l .direction;
       owner = l .owner;
       count = l .count + 1;
+      order = l .order;
       words = l .words;
       state = advanced l;
     })
@@ -76,6 +78,6 @@ served l =
 unfoldable pub lacks : Lane → ℕ
 lacks l = cond (eqb (l .phase) running) (8 - l .count) 0
 
--- Yielding: what a lent buffer holds afterwards, the bytes of the lane's block.
+-- Yielding: what a lent buffer holds afterwards, the bytes of the lane's block in its own order.
 unfoldable pub yielded : Lane → List ℕ → List ℕ
-yielded l out = unpacked (l .state) out
+yielded l out = unpacked (l .order) (l .state) out

@@ -1,5 +1,6 @@
 // One lane's record: whether it is sound, its opening, a turn of its own, what it yields, and the idle one.
 use gift128::Gift128;
+use packing::is_order;
 use packing::packing;
 use packing::unpacking;
 use primitives::State;
@@ -18,20 +19,22 @@ pub const RUNNING: u8 = 1;
 pub const FINISHED: u8 = 2;
 
 // How many turns of its own a lane takes from its opening until it is finished.
-pub const TURNS: u32 = 8;
+pub const TURNS: u16 = 8;
 
 // The directions.
 pub const ENCRYPT: u8 = 0;
 
 pub const DECRYPT: u8 = 1;
 
-// The owner is the guest that opened the lane, and 0 while it is idle; the count is of the lane's own turns. No byte of the record is padding.
+// The owner is the guest that opened the lane, and 0 while it is idle; the count is of the lane's own turns; the order is that of its block's bytes. No byte
+// of the record is padding.
 #[repr(C)]
 pub struct Lane {
     pub phase: u8,
     pub direction: u8,
     pub owner: u16,
-    pub count: u32,
+    pub count: u16,
+    pub order: u16,
     pub words: [u32; 80],
     pub state: State,
 }
@@ -56,7 +59,11 @@ fn all_zero(l: Lane) -> bool
 {
     let words = l.words;
     let state = l.state;
-    let head = (l.phase as u32) | (l.direction as u32) | (l.owner as u32) | l.count;
+    let head = (l.phase as u32)
+        | (l.direction as u32)
+        | (l.owner as u32)
+        | (l.count as u32)
+        | (l.order as u32);
     let block = state.s0 | state.s1 | state.s2 | state.s3;
     (head | block | any_bit(words)) == 0
 }
@@ -74,6 +81,9 @@ pub fn sound_lane(l: Lane) -> bool
         return false;
     }
     if DECRYPT < l.direction {
+        return false;
+    }
+    if !is_order(l.order as u32) {
         return false;
     }
     if phase == RUNNING {
@@ -101,20 +111,21 @@ pub fn admits(l: Lane, caller: u16) -> bool
 
 // ---- opening
 
-// The key expanded and the block packed: running, with no turn made. (Of a key or block of another length than 16, which every call
-// refuses before, the words are zero.)
-pub fn opened(owner: u16, direction: u8, key: &[u8], block: &[u8]) -> Lane
-    ensures { λ r. ⌜ r ≡ opened owner direction (now (key .entry)) (now (block .entry)) ⌝ }
+// The key expanded and the block packed as its order has it: running, with no turn made. (Of a key or block of another length than 16, and in another
+// order, which every call refuses before, the words are zero.)
+pub fn opened(owner: u16, direction: u8, order: u16, key: &[u8], block: &[u8]) -> Lane
+    ensures { λ r. ⌜ r ≡ opened owner direction order (now (key .entry)) (now (block .entry)) ⌝ }
 {
     let made = Gift128::new(key);
     let cipher = made.cipher;
     let words = cipher.k;
-    let state = packing(block);
+    let state = packing(order as u32, block);
     Lane {
         phase: RUNNING,
         direction,
         owner,
         count: 0,
+        order,
         words,
         state,
     }
@@ -155,6 +166,7 @@ pub fn served(l: Lane) -> Lane
             direction: l.direction,
             owner: l.owner,
             count: count + 1,
+            order: l.order,
             words,
             state,
         };
@@ -164,6 +176,7 @@ pub fn served(l: Lane) -> Lane
         direction: l.direction,
         owner: l.owner,
         count: count + 1,
+        order: l.order,
         words,
         state,
     }
@@ -171,12 +184,12 @@ pub fn served(l: Lane) -> Lane
 
 // ---- yielding, and going idle
 
-// The bytes of its block, to a buffer of 16; another is left as it is.
+// The bytes of its block, in its own order, to a buffer of 16; another is left as it is.
 pub fn yielded(l: Lane, out: &mut [u8])
     ensures { λ r. ⌜ now (out .exit) ≡ yielded l (now (out .entry)) ⌝ }
 {
     let state = l.state;
-    unpacking(state, out);
+    unpacking(l.order as u32, state, out);
 }
 
 // Idle, all zero: a fresh lane, and one that was taken from or closed.
@@ -194,6 +207,7 @@ pub fn idle_lane() -> Lane
         direction: 0,
         owner: 0,
         count: 0,
+        order: 0,
         words: [0u32; 80],
         state,
     }

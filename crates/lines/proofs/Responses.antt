@@ -7,8 +7,8 @@ use borrow.Author.Tests.{eq-eqb, ne-eqb}
 use Rattle.answers.specs.Outcome.{Gives}
 use Rattle.published.specs.Bytes.{fromBytes}
 use Rattle.published.specs.Gift128.{encrypted, decrypted}
-use Rattle.published.specs.Calls.{blockCode, keyCode}
-use Rattle.gift128.specs.Calls.{afterOne}
+use Rattle.published.specs.Calls.{blockCode, keyCode, EncryptsByKey, DecryptsByKey}
+use Rattle.gift128.specs.Calls.{orderCode, EncryptsByKeyIn, DecryptsByKeyIn, afterOne}
 use Rattle.lines.specs.Hex.{hexOf}
 use Rattle.lines.specs.Line.{packedText, response}
 
@@ -16,6 +16,15 @@ pub leaves : (key block : List ℕ) {new left : List ℕ} {r : ℕ} → length k
     → Gives (keyCode (length key) (length block)) new block r left → left ≡ new
 unfolding keyCode blockCode
 leaves key block k b g = g .leaves ∙ (rw (k, b))
+
+-- the cipher in order 0
+pub encrypts : (key block : List ℕ) {r : ℕ} {left : List ℕ} → EncryptsByKeyIn 0 key block r left → EncryptsByKey key block r left
+unfolding orderCode encrypted
+encrypts key block g = g
+
+pub decrypts : (key block : List ℕ) {r : ℕ} {left : List ℕ} → DecryptsByKeyIn 0 key block r left → DecryptsByKey key block r left
+unfolding orderCode decrypted
+decrypts key block g = g
 
 module _ (c : ℕ) (key block : List ℕ) where
   pub response-E : c ≡ 69 → response c key block ≡ hexOf (encrypted key block)

@@ -2,6 +2,7 @@
 use gift128::decrypt_by_key;
 use gift128::encrypt_by_key;
 use gift128::one_round;
+use packing::NUMBER;
 use packing::packing;
 use primitives::State;
 ghost use mathlib.Core.Path.{_≡_};
@@ -220,11 +221,11 @@ fn respond(letter: u8, key: &[u8], block: &mut [u8]) -> Text
     ensures { λ r. ⌜ r ≡ written (response letter (now (key .entry)) (now (block .entry))) ⌝ }
 {
     if letter == b'E' {
-        encrypt_by_key(key, block);
+        encrypt_by_key(NUMBER, key, block);
         return push_hex(empty(), block);
     }
     if letter == b'D' {
-        decrypt_by_key(key, block);
+        decrypt_by_key(NUMBER, key, block);
         return push_hex(empty(), block);
     }
     if letter == b'R' {
@@ -239,7 +240,7 @@ fn respond(letter: u8, key: &[u8], block: &mut [u8]) -> Text
         plain::decrypt_by_key(key, block);
         return push_hex(empty(), block);
     }
-    words_text(packing(block))
+    words_text(packing(NUMBER, block))
 }
 
 fn respond_to(line: &[u8]) -> Text

@@ -1,19 +1,23 @@
--- A block and its two halves: halves read from its bytes, their bits gathered into words and scattered again, and halves put as bytes.
+-- A block and its two halves: halves read from its bytes, their bits gathered into words and scattered again, and halves, or pairs of words, put as bytes.
 use mathlib.Core.Path.{_≡_, sym, ap, ap₂, _∙_}
-use mathlib.Core.List.{List, [], _∷_}
-use Prim.Native.Nat.{ℕ, zero, suc, _+_, _*_, _%_, _^_, _<_}
+use mathlib.Core.List.{List, [], _∷_, _++_}
+use Prim.Native.Nat.{ℕ, _+_, _*_, _%_, _^_, _<_}
 use native.Mathlib.Nat.{div-one, mod-eq-of-lt, mul-add-mod-self-right}
 use native.Mathlib.Omega.{arith}
 use lib.Dec.{T, ltb, lit<}
 use lib.ListN.{length}
 use Rattle.bits.specs.Digit.{digit, bit}
-use Rattle.bits.proofs.Digits.{number-cong, number-digit, digit-lt, digit-top, digit-digit}
+use Rattle.bits.proofs.Digits.{number-cong, number-digit, digit-lt, digit-top, digit-below, digit-digit}
 use Rattle.bits.proofs.Bits.{bit-digit, bit-ext}
 use Rattle.bits.proofs.Computed.{agree}
 use Rattle.published.specs.Bytes.{fromBytes, toBytes}
 use Rattle.published.specs.Packing.{word}
-use Rattle.primitives.specs.Packed.{stateOf}
-use Rattle.primitives.proofs.Blocks.{bit-word, word-lt, wordOf-stateOf}
+use Rattle.published.specs.Seen.{writeWords}
+use Rattle.published.proofs.Listed.{each}
+use Rattle.published.proofs.Words.{bit-word, word-lt}
+use Rattle.primitives.specs.declared.State.{State}
+use Rattle.primitives.specs.Packed.{wordOf, blockOf, stateOf, Words}
+use Rattle.primitives.proofs.Blocks.{wordOf-stateOf, word-blockOf}
 use Rattle.packing.specs.Inner.{halfAt, copied, reordered, gatheredFrom, scatteredFrom, wordFrom, halfFrom}
 use Rattle.packing.proofs.Steps.{reordered-lt, bit-reordered}
 
@@ -56,17 +60,6 @@ scattered-half x h l =
 
 -- ---- bytes
 
--- a fact of every list of n elements, from the lists written out
-abbrev pub Each : ℕ → (List ℕ → Type 0) → Type 0
-Each zero P = P []
-Each (suc n) P = (a : ℕ) → Each n (λ l. P (a ∷ l))
-
-pub each : (n : ℕ) (P : List ℕ → Type 0) → Each n P → (l : List ℕ) → length l ≡ n → P l
-each zero P p [] e = p
-each zero P p (a ∷ l) e = absurd (omega arith)
-each (suc n) P p [] e = absurd (omega arith)
-each (suc n) P p (a ∷ l) e = each n (λ l. P (a ∷ l)) (p a) l (omega arith)
-
 joined : (bs : List ℕ) → length bs ≡ 16 → fromBytes bs ≡ halfAt bs 0 * 2 ^ 64 + halfAt bs 8
 unfolding fromBytes
 joined = each 16 (λ bs. fromBytes bs ≡ halfAt bs 0 * 2 ^ 64 + halfAt bs 8) (λ _ _ _ _ _ _ _ _ _ _ _ _ _ _ _ _. omega arith)
@@ -78,16 +71,49 @@ reads bs high low len e f h l =
     rw (joined bs len, sym e, sym f)
     (sym (digit-top (2 ^ 64) (lit< tt) 1 high low h l), sym (ap (λ (x : ℕ). x % 2 ^ 64) (div-one (high * 2 ^ 64 + low)) ∙ mul-add-mod-self-right high (2 ^ 64) low ∙ mod-eq-of-lt l))
 
-abbrev halvesPut : ℕ → List ℕ → List ℕ
-halvesPut x out = copied 8 (copied 8 out 0 (toBytes 8 (halfOf x 1))) 8 (toBytes 8 (halfOf x 0))
+abbrev halvesPut : ℕ → ℕ → List ℕ → List ℕ
+halvesPut high low out = copied 8 (copied 8 out 0 (toBytes 8 high)) 8 (toBytes 8 low)
 
-pub puts : (x : ℕ) (out : List ℕ) → length out ≡ 16 → halvesPut x out ≡ toBytes 16 x
+pub puts : (x : ℕ) (out : List ℕ) → length out ≡ 16 → halvesPut (halfOf x 1) (halfOf x 0) out ≡ toBytes 16 x
 unfolding copied toBytes
 puts x =
-    each 16 (λ out. halvesPut x out ≡ toBytes 16 x)
+    each 16 (λ out. halvesPut (halfOf x 1) (halfOf x 0) out ≡ toBytes 16 x)
     (λ _ _ _ _ _ _ _ _ _ _ _ _ _ _ _ _. λ i.
     d 1 7 tt i ∷ d 1 6 tt i ∷ d 1 5 tt i ∷ d 1 4 tt i ∷ d 1 3 tt i ∷ d 1 2 tt i ∷ d 1 1 tt i ∷ d 1 0 tt i
     ∷ d 0 7 tt i ∷ d 0 6 tt i ∷ d 0 5 tt i ∷ d 0 4 tt i ∷ d 0 3 tt i ∷ d 0 2 tt i ∷ d 0 1 tt i ∷ d 0 0 tt i ∷ [])
   where
     d : (h m : ℕ) → T (ltb m 8) → digit 256 (halfOf x h) m ≡ digit 256 x (8 * h + m)
     d h m t = digit-digit 256 (lit< tt) 8 x h m (lit< t)
+
+-- two words side by side: the upper one and the lower
+module _ (a b : ℕ) (ha : a < 2 ^ 32) (hb : b < 2 ^ 32) where
+  upper : (m : ℕ) → T (ltb m 4) → digit 256 (a * 2 ^ 32 + b) (4 + m) ≡ digit 256 a m
+  upper m t =
+      sym (digit-digit 256 (lit< tt) 4 (a * 2 ^ 32 + b) 1 m (lit< t)) ∙ ap (λ (w : ℕ). digit 256 w m) (digit-top (2 ^ 32) (lit< tt) 1 a b ha hb)
+
+  lower : (m : ℕ) → T (ltb m 4) → digit 256 (a * 2 ^ 32 + b) m ≡ digit 256 b m
+  lower m t = digit-below 256 (lit< tt) 4 a b m (lit< t)
+
+pub puts-words : (s : State) → Words s → (out : List ℕ) → length out ≡ 16 → halvesPut (s .s0 * 2 ^ 32 + s .s1) (s .s2 * 2 ^ 32 + s .s3) out ≡ writeWords (blockOf s)
+unfolding copied toBytes writeWords
+puts-words s h =
+    each 16 (λ out. halvesPut (s .s0 * 2 ^ 32 + s .s1) (s .s2 * 2 ^ 32 + s .s3) out ≡ writeWords (blockOf s))
+    (λ _ _ _ _ _ _ _ _ _ _ _ _ _ _ _ _. (λ i.
+    u01 3 tt i ∷ u01 2 tt i ∷ u01 1 tt i ∷ u01 0 tt i ∷ l01 3 tt i ∷ l01 2 tt i ∷ l01 1 tt i ∷ l01 0 tt i
+    ∷ u23 3 tt i ∷ u23 2 tt i ∷ u23 1 tt i ∷ u23 0 tt i ∷ l23 3 tt i ∷ l23 2 tt i ∷ l23 1 tt i ∷ l23 0 tt i ∷ [])
+    ∙ sym (λ i. toBytes 4 (w 0 tt i) ++ toBytes 4 (w 1 tt i) ++ toBytes 4 (w 2 tt i) ++ toBytes 4 (w 3 tt i)))
+  where
+    w : (j : ℕ) → T (ltb j 4) → word 128 (blockOf s) j ≡ wordOf s j
+    w j t = word-blockOf s h j (lit< t)
+
+    u01 : (m : ℕ) → T (ltb m 4) → digit 256 (s .s0 * 2 ^ 32 + s .s1) (4 + m) ≡ digit 256 (s .s0) m
+    u01 = upper (s .s0) (s .s1) (h .0) (h .1)
+
+    l01 : (m : ℕ) → T (ltb m 4) → digit 256 (s .s0 * 2 ^ 32 + s .s1) m ≡ digit 256 (s .s1) m
+    l01 = lower (s .s0) (s .s1) (h .0) (h .1)
+
+    u23 : (m : ℕ) → T (ltb m 4) → digit 256 (s .s2 * 2 ^ 32 + s .s3) (4 + m) ≡ digit 256 (s .s2) m
+    u23 = upper (s .s2) (s .s3) (h .2) (h .3)
+
+    l23 : (m : ℕ) → T (ltb m 4) → digit 256 (s .s2 * 2 ^ 32 + s .s3) m ≡ digit 256 (s .s3) m
+    l23 = lower (s .s2) (s .s3) (h .2) (h .3)

@@ -13,12 +13,12 @@ use Rattle.bits.proofs.Digits.{digit-lt, digit-number}
 use Rattle.bits.proofs.Bits.{bit-digit, bit-ext, bit-ofBits, ofBits-lt}
 use Rattle.published.specs.Bytes.{fromBytes, toBytes}
 use Rattle.published.specs.Packing.{word}
+use Rattle.published.proofs.Listed.{each}
 use Rattle.primitives.specs.declared.State.{State}
 use Rattle.primitives.specs.Packed.{wordOf, blockOf64, stateOf64}
 use Rattle.packing.specs.Inner.{halfAt, copied, reordered, gatheredFrom, scatteredFrom, halfFrom}
 use Rattle.packing.specs.Packing.{noWords, packed64, unpacked64}
 use Rattle.packing.proofs.Steps.{reordered-lt, bit-reordered}
-use Rattle.packing.proofs.Halves.{each}
 
 -- gathered, piece j is word j
 pub piece-is-word : (x j : ℕ) → j < 4 → digit 65536 (reordered gatheredFrom x) j ≡ word 64 x j

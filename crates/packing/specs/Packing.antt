@@ -1,23 +1,24 @@
--- What packing and unpacking answer: sixteen bytes, or eight, and the four words of the number that they are; a stated answer for every other length.
-use mathlib.Core.Bool.{cond}
+-- What packing and unpacking answer: sixteen bytes, seen through an order, or eight, and the four words of the block that they are; a stated answer for every other number and length.
+use mathlib.Core.Bool.{cond, _&&_}
 use mathlib.Core.List.{List}
 use Prim.Native.Nat.{ℕ}
 use lib.Dec.{eqb}
 use lib.ListN.{length}
-use Rattle.published.specs.Bytes.{fromBytes, toBytes, readBlock, writeBlock}
+use Rattle.published.specs.Bytes.{fromBytes, toBytes}
+use Rattle.published.specs.Seen.{isOrder, readIn, writeIn}
 use Rattle.primitives.specs.declared.State.{State}
 use Rattle.primitives.specs.Packed.{blockOf, stateOf, blockOf64, stateOf64}
 
--- what a slice of another length is packed to
+-- what a slice of another length, or one in no order, is packed to
 abbrev pub noWords : State
 noWords = record { s0 = 0; s1 = 0; s2 = 0; s3 = 0 }
 
-unfoldable pub packed : List ℕ → State
-packed bs = cond (eqb (length bs) 16) (stateOf (readBlock bs)) noWords
+unfoldable pub packed : (order : ℕ) → List ℕ → State
+packed order bs = cond (isOrder order && eqb (length bs) 16) (stateOf (readIn order bs)) noWords
 
--- a buffer of another length stays as it is
-unfoldable pub unpacked : State → List ℕ → List ℕ
-unpacked s out = cond (eqb (length out) 16) (writeBlock (blockOf s)) out
+-- a buffer of another length stays as it is, and so does any in no order
+unfoldable pub unpacked : (order : ℕ) → State → List ℕ → List ℕ
+unpacked order s out = cond (isOrder order && eqb (length out) 16) (writeIn order (blockOf s)) out
 
 -- the same of eight bytes, for GIFT-64
 unfoldable pub packed64 : List ℕ → State

@@ -1,13 +1,15 @@
-// Packing and unpacking of primitives.rs: the sixteen bytes of a block, and the four words in which its bits are kept: bit i of word j is bit 4i + j of the block.
-// A block is two halves of 64 bits. Bit 4i + j of a half goes to place 16j + i, so that the half's sixteen bits of word j stand together, as its piece j;
+// Packing and unpacking of primitives.rs: the sixteen bytes of a block, in either order, and the four words in which its bits are kept: bit i of word j is bit 4i + j of the block.
+// In order 0 a block is two halves of 64 bits. Bit 4i + j of a half goes to place 16j + i, so that the half's sixteen bits of word j stand together, as its piece j;
 // word j is piece j of the upper half above piece j of the lower.
 use primitives::State;
 use primitives::u32big;
 ghost use mathlib.Core.Path.{_≡_};
-ghost use Prim.Native.Nat.{_+_, _<_};
+ghost use Prim.Native.Nat.{_+_, _*_, _^_, _<_};
 ghost use lib.ListN.{length};
 ghost use Rattle.bits.specs.Digit.{digit};
 ghost use Rattle.published.specs.Bytes.{toBytes};
+ghost use Rattle.published.specs.Seen.{isOrder, readIn, writeIn};
+ghost use Rattle.primitives.specs.Packed.{blockOf, stateOf};
 ghost use Rattle.packing.specs.Packing.{packed, unpacked, packed64, unpacked64};
 ghost use Rattle.packing.specs.Inner.{fourAt, halfAt, copied, reordered, crossed, rising, gatheredFrom, scatteredFrom, wordFrom, halfFrom};
 
@@ -111,36 +113,104 @@ fn put(output: &mut [u8], at: usize, eight: [u8; 8])
     }
 }
 
-// Sixteen bytes are packed; of any other number of bytes come four zero words.
-pub fn packing(input: &[u8]) -> State
-    ensures { λ r. ⌜ r ≡ packed (now (input .entry)) ⌝ }
+// ---- order 0: the block is one number
+
+fn from_number(input: &[u8]) -> State
+    requires { ⌜ length (now input) ≡ 16 ⌝ }
+    ensures { λ r. ⌜ r ≡ stateOf (readIn 0 (now (input .entry))) ⌝ }
 {
-    if input.len() == 16 {
-        let high = gather(half_at(input, 0));
-        let low = gather(half_at(input, 8));
-        State {
-            s0: word(high, low, 0),
-            s1: word(high, low, 1),
-            s2: word(high, low, 2),
-            s3: word(high, low, 3),
-        }
-    } else {
-        State {
-            s0: 0,
-            s1: 0,
-            s2: 0,
-            s3: 0,
-        }
+    let high = gather(half_at(input, 0));
+    let low = gather(half_at(input, 8));
+    State {
+        s0: word(high, low, 0),
+        s1: word(high, low, 1),
+        s2: word(high, low, 2),
+        s3: word(high, low, 3),
     }
 }
 
-// Sixteen bytes are written; a buffer of another length stays as it is.
-pub fn unpacking(state: State, output: &mut [u8])
-    ensures { λ r. ⌜ now (output .exit) ≡ unpacked state (now (output .entry)) ⌝ }
+fn to_number(state: State, output: &mut [u8])
+    requires { ⌜ length (now output) ≡ 16 ⌝ }
+    ensures { λ r. ⌜ now (output .exit) ≡ writeIn 0 (blockOf state) ⌝ }
+{
+    put(output, 0, bytes(scatter(half(state, 1))));
+    put(output, 8, bytes(scatter(half(state, 0))));
+}
+
+// ---- order 1: the block is its four words, and no bit has to move
+
+fn from_words(input: &[u8]) -> State
+    requires { ⌜ length (now input) ≡ 16 ⌝ }
+    ensures { λ r. ⌜ r ≡ stateOf (readIn 1 (now (input .entry))) ⌝ }
+{
+    State {
+        s0: four_at(input, 0),
+        s1: four_at(input, 4),
+        s2: four_at(input, 8),
+        s3: four_at(input, 12),
+    }
+}
+
+// Two words side by side, the first on top.
+fn pair(high: u32, low: u32) -> u64
+    ensures { λ r. ⌜ r ≡ high * 2 ^ 32 + low ⌝ }
+{
+    (high as u64) * 0x100000000 + (low as u64)
+}
+
+fn to_words(state: State, output: &mut [u8])
+    requires { ⌜ length (now output) ≡ 16 ⌝ }
+    ensures { λ r. ⌜ now (output .exit) ≡ writeIn 1 (blockOf state) ⌝ }
+{
+    put(output, 0, bytes(pair(state.s0, state.s1)));
+    put(output, 8, bytes(pair(state.s2, state.s3)));
+}
+
+// ---- either
+
+// The orders' numbers: the bytes are one number, or four words, the most significant byte first in both.
+pub const NUMBER: u32 = 0;
+
+pub const WORDS: u32 = 1;
+
+pub fn is_order(order: u32) -> bool
+    ensures { λ r. ⌜ r ≡ isOrder order ⌝ }
+{
+    order <= WORDS
+}
+
+// Sixteen bytes are packed, as the order has them; of any other number of bytes, and in any other order, come four zero words.
+pub fn packing(order: u32, input: &[u8]) -> State
+    ensures { λ r. ⌜ r ≡ packed order (now (input .entry)) ⌝ }
+{
+    if input.len() == 16 {
+        if order == NUMBER {
+            return from_number(input);
+        }
+        if order == WORDS {
+            return from_words(input);
+        }
+    }
+    State {
+        s0: 0,
+        s1: 0,
+        s2: 0,
+        s3: 0,
+    }
+}
+
+// Sixteen bytes are written, as the order has them; a buffer of another length stays as it is, and so does any in another order.
+pub fn unpacking(order: u32, state: State, output: &mut [u8])
+    ensures { λ r. ⌜ now (output .exit) ≡ unpacked order state (now (output .entry)) ⌝ }
 {
     if output.len() == 16 {
-        put(output, 0, bytes(scatter(half(state, 1))));
-        put(output, 8, bytes(scatter(half(state, 0))));
+        if order == NUMBER {
+            to_number(state, output);
+            return;
+        }
+        if order == WORDS {
+            to_words(state, output);
+        }
     }
 }
 

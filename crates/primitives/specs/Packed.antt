@@ -1,9 +1,8 @@
 -- Four words and the block that they stand for: bit i of word j is b(4i+j).
 use mathlib.Core.List.{[], _∷_}
-use Prim.Native.Nat.{ℕ, _/_, _%_, _^_, _<_}
+use Prim.Native.Nat.{ℕ, _^_, _<_}
 use lib.ListN.{getD}
-use Rattle.bits.specs.Digit.{bit, ofBits}
-use Rattle.published.specs.Packing.{word}
+use Rattle.published.specs.Packing.{word, fromWords}
 use Rattle.primitives.specs.declared.State.{State}
 
 -- word j of a state
@@ -12,7 +11,7 @@ wordOf s j = getD (s .s0 ∷ s .s1 ∷ s .s2 ∷ s .s3 ∷ []) j 0
 
 -- of n bits, a quarter of them in each word
 abbrev pub blockFrom : ℕ → State → ℕ
-blockFrom n s = ofBits n (λ q. bit (wordOf s (q % 4)) (q / 4))
+blockFrom n s = fromWords n (wordOf s)
 
 abbrev pub stateFrom : ℕ → ℕ → State
 stateFrom n x = record { s0 = word n x 0; s1 = word n x 1; s2 = word n x 2; s3 = word n x 3 }

@@ -10,3 +10,6 @@ pub mod Gift64
 pub mod Calls
 pub mod Calls64
 pub mod Many
+pub mod Listed
+pub mod Words
+pub mod Seen

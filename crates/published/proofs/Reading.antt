@@ -1,6 +1,6 @@
 -- Reading bytes as a number and writing a number as bytes are each other's inverse, for every length.
 use mathlib.Core.Path.{_≡_, refl, sym, ap, ap₂, _∙_}
-use mathlib.Core.List.{List, [], _∷_}
+use mathlib.Core.List.{List, [], _∷_, _++_}
 use mathlib.Core.Logic.{⊎-elim}
 use Prim.Native.Nat.{ℕ, zero, suc, _+_, _-_, _*_, _/_, _%_, _^_, _<_}
 use native.Mathlib.Nat.{le-refl, le-of-suc-le, le-of-suc-le-suc, not-suc-le-zero, eq-or-lt-of-le, pow-succ', div-add-mod, mod-lt}
@@ -9,7 +9,7 @@ use lib.Arith.{digits-lt}
 use lib.Dec.{lit<}
 use lib.ListN.{length, getD}
 use Rattle.bits.specs.Digit.{digit, number, bit}
-use Rattle.bits.proofs.Digits.{number-digit, digit-top, digit-below}
+use Rattle.bits.proofs.Digits.{number-digit, digit-lt, digit-top, digit-below}
 use Rattle.bits.proofs.Bits.{bit-digit}
 use Rattle.published.specs.Bytes.{fromBytes, toBytes, Bytes}
 
@@ -27,6 +27,16 @@ no-bytes i = base
 pub more-bytes : (b : ℕ) (bs : List ℕ) → b < 256 → Bytes bs → Bytes (b ∷ bs)
 more-bytes b bs h hs zero = h
 more-bytes b bs h hs (suc i) = hs i
+
+pub bytes-append : (bs cs : List ℕ) → Bytes bs → Bytes cs → Bytes (bs ++ cs)
+bytes-append [] cs h k i = k i
+bytes-append (b ∷ bs) cs h k zero = h 0
+bytes-append (b ∷ bs) cs h k (suc i) = bytes-append bs cs (λ j. h (suc j)) k i
+
+pub bytes-toBytes : (k x : ℕ) → Bytes (toBytes k x)
+unfolding toBytes
+bytes-toBytes zero x = no-bytes
+bytes-toBytes (suc k) x = more-bytes (digit 256 x k) (toBytes k x) (digit-lt 256 base x k) (bytes-toBytes k x)
 
 pub fromBytes-lt : (bs : List ℕ) → Bytes bs → fromBytes bs < 256 ^ length bs
 unfolding fromBytes

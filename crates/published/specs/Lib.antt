@@ -8,4 +8,5 @@ pub mod Calls
 pub mod Blocks
 pub mod Calls64
 pub mod Packing
+pub mod Seen
 pub mod Inner

@@ -14,10 +14,11 @@ use Rattle.bits.proofs.Truth.{both}
 use Rattle.bits.proofs.Computed.{cond-true, cond-false}
 use Rattle.published.specs.Rounds.{constant, round, unround}
 use Rattle.published.specs.Gift128.{rounds128, unrounds128}
+use Rattle.published.proofs.Words.{four}
 use Rattle.primitives.specs.declared.State.{State}
 use Rattle.primitives.specs.Packed.{wordOf, blockOf, stateOf, Words}
 use Rattle.primitives.proofs.Moves.{bit-permuted}
-use Rattle.primitives.proofs.Blocks.{four, stateOf-blockOf}
+use Rattle.primitives.proofs.Blocks.{stateOf-blockOf}
 use Rattle.round_words.specs.Arranged.{nibbleAt, stands, arranged, constantWord, pairsFrom}
 use Rattle.round_words.proofs.Arrangements.{arranged-lt, stands-arranged}
 use Rattle.quintuple.specs.declared.Part.{Part}

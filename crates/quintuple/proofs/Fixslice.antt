@@ -14,11 +14,12 @@ use Rattle.published.specs.Rounds.{P, Pair, entry, step, constant, round, unrou
 use Rattle.published.specs.Inner.{back}
 use Rattle.published.proofs.Steps.{width128}
 use Rattle.published.proofs.Undone.{unround-round}
+use Rattle.published.proofs.Words.{four}
 use Rattle.primitives.specs.declared.State.{State}
 use Rattle.primitives.specs.Words.{permuted}
 use Rattle.primitives.specs.Packed.{wordOf, blockOf, Words}
 use Rattle.primitives.proofs.Moves.{bit-permuted, permuted-lt, permuted-id, permuted-then}
-use Rattle.primitives.proofs.Blocks.{four, same-words}
+use Rattle.primitives.proofs.Blocks.{same-words}
 use Rattle.round_words.specs.Arranged.{N, nibbleAt, stands}
 use Rattle.round_words.proofs.Arrangements.{nibbleAt-lt, there-and-back}
 use Rattle.quintuple.specs.Boxes.{substituted}

@@ -18,9 +18,10 @@ use Rattle.published.specs.Inner.{back, unentry}
 use Rattle.published.proofs.Steps.{Width, unentry-lt, entry-unentry}
 use Rattle.published.proofs.Undone.{round-lt}
 use Rattle.published.proofs.OneBit.{source-lt, bit-round}
+use Rattle.published.proofs.Words.{four}
 use Rattle.primitives.specs.declared.State.{State}
 use Rattle.primitives.specs.Packed.{wordOf, Words}
-use Rattle.primitives.proofs.Blocks.{words-at, four}
+use Rattle.primitives.proofs.Blocks.{words-at}
 use Rattle.quintuple.specs.Boxes.{column, substituted, boxed}
 use Rattle.quintuple.specs.Inner.{blockAt, exchangedOf}
 

@@ -71,7 +71,8 @@ fn record(line: &[u8]) -> Lane {
         phase: (number(line, b"phase") % 256) as u8,
         direction: (number(line, b"direction") % 256) as u8,
         owner: owner(line),
-        count: number(line, b"count"),
+        count: (number(line, b"count") % 65536) as u16,
+        order: (number(line, b"order") % 65536) as u16,
         words,
         state,
     }
@@ -102,7 +103,8 @@ fn same_lane(a: Lane, b: Lane) -> bool {
     let head = (a.phase == b.phase)
         & (a.direction == b.direction)
         & (a.owner == b.owner)
-        & (a.count == b.count);
+        & (a.count == b.count)
+        & (a.order == b.order);
     head & same_eighty(v, w) & same_state(a.state, b.state)
 }
 
@@ -129,6 +131,7 @@ fn opened(b: Bench, lane: u32, line: &[u8]) -> Answer {
         lane,
         owner(line),
         direction,
+        number(line, b"order"),
         front(&key, k.n),
         front(&block, t.n),
     )

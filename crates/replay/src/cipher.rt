@@ -1,4 +1,4 @@
-// The calls of the cipher and of its parts, by their numbers in main.rt: the fields of each are in oracle/README.md.
+// The calls of the cipher and of its parts, by their numbers in main.rt: the fields of each are in oracle/README.md. A line that tells no order tells order 0.
 //
 // A field may hold any number of bytes or words, and all are lent: what a call refuses is a case too.
 use crate::text;
@@ -10,6 +10,7 @@ use crate::text::front;
 use crate::text::front_words;
 use crate::text::key;
 use crate::text::left;
+use crate::text::number;
 use crate::text::says;
 use crate::text::says_number;
 use crate::text::says_one;
@@ -18,23 +19,23 @@ use gift128::Gift128;
 use primitives::State;
 ghost use Rattle.io.specs.Counts.{Counts};
 
-fn by_instance(call: u32, key: &[u8], block: &mut [u8]) -> u32 {
+fn by_instance(call: u32, order: u32, key: &[u8], block: &mut [u8]) -> u32 {
     let made = Gift128::new(key);
     let cipher = made.cipher;
     if call == 6 {
-        return cipher.encrypt_block(block);
+        return cipher.encrypt_block(order, block);
     }
-    cipher.decrypt_block(block)
+    cipher.decrypt_block(order, block)
 }
 
-fn by_key(call: u32, key: &[u8], input: &[u8], lent: &mut [u8]) -> u32 {
+fn by_key(call: u32, order: u32, key: &[u8], input: &[u8], lent: &mut [u8]) -> u32 {
     match call {
-        1 => gift128::encrypt_by_key(key, lent),
-        2 => gift128::decrypt_by_key(key, lent),
+        1 => gift128::encrypt_by_key(order, key, lent),
+        2 => gift128::decrypt_by_key(order, key, lent),
         3 => gift128::one_round(key, lent),
-        4 => gift128::encrypt_blocks(key, input, lent),
-        5 => gift128::decrypt_blocks(key, input, lent),
-        _ => by_instance(call, key, lent),
+        4 => gift128::encrypt_blocks(order, key, input, lent),
+        5 => gift128::decrypt_blocks(order, key, input, lent),
+        _ => by_instance(call, order, key, lent),
     }
 }
 
@@ -43,26 +44,28 @@ fn on_key(call: u32, line: &[u8], lent: &mut [u8]) -> u32 {
     let q = field(line, b"input");
     let key = k.bytes;
     let input = q.bytes;
-    by_key(call, front(&key, k.n), front(&input, q.n), lent)
+    let order = number(line, b"order");
+    by_key(call, order, front(&key, k.n), front(&input, q.n), lent)
 }
 
-fn unpacked(s: State, lent: &mut [u8]) -> u32 {
-    packing::unpacking(s, lent);
+fn unpacked(order: u32, s: State, lent: &mut [u8]) -> u32 {
+    packing::unpacking(order, s, lent);
     0
 }
 
-fn by_words(call: u32, s: State, words: &[u32], lent: &mut [u8]) -> u32 {
+fn by_words(call: u32, order: u32, s: State, words: &[u32], lent: &mut [u8]) -> u32 {
     match call {
-        8 => gift128::encrypt_by_words(words, lent),
-        9 => gift128::decrypt_by_words(words, lent),
-        _ => unpacked(s, lent),
+        8 => gift128::encrypt_by_words(order, words, lent),
+        9 => gift128::decrypt_by_words(order, words, lent),
+        _ => unpacked(order, s, lent),
     }
 }
 
 fn on_words(call: u32, line: &[u8], lent: &mut [u8]) -> u32 {
     let w = words(line);
     let words = w.words;
-    by_words(call, args(line), front_words(&words, w.m), lent)
+    let order = number(line, b"order");
+    by_words(call, order, args(line), front_words(&words, w.m), lent)
 }
 
 fn changed(call: u32, line: &[u8], lent: &mut [u8]) -> u32 {
@@ -171,7 +174,7 @@ fn rounds(call: u32, s: State, words: &[u32], i: usize) -> State {
 fn packed(line: &[u8]) -> State {
     let p = field(line, b"input");
     let block = p.bytes;
-    packing::packing(front(&block, p.n))
+    packing::packing(number(line, b"order"), front(&block, p.n))
 }
 
 fn state(call: u32, line: &[u8]) -> State {

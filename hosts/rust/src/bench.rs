@@ -19,6 +19,17 @@ pub enum Direction {
     Decrypt = 1,
 }
 
+/// How the sixteen bytes of a block are seen as its 128 bits, and these as bytes again. The rounds and the key are the same in both.
+#[derive(Clone, Copy, Debug, Default, PartialEq, Eq, Hash)]
+#[repr(u8)]
+pub enum Order {
+    /// 0: one number, the first byte the most significant, as in the GIFT paper. It is what every call does that names no order.
+    #[default]
+    Number = 0,
+    /// 1: four words, word j of bytes 4j to 4j+3, the most significant first, as in GIFT-COFB.
+    Words = 1,
+}
+
 /// A guest's number, from 1 to 65535: the lanes that are opened with it are that guest's.
 #[derive(Clone, Copy, Debug, PartialEq, Eq, PartialOrd, Ord, Hash)]
 pub struct Owner(NonZeroU16);
@@ -38,7 +49,7 @@ impl Owner {
     }
 }
 
-/// A block's four words: bit i of word j is bit 4i+j of the block, whose first byte is the most significant.
+/// A block's four words: bit i of word j is bit 4i+j of the block.
 #[derive(Clone, Copy, Default, PartialEq, Eq)]
 #[repr(C)]
 #[allow(missing_docs)]
@@ -49,8 +60,8 @@ pub struct State {
     pub s3: u32,
 }
 
-/// One lane's record. It is sound if it is all zero, which is idle, or if its owner is not 0, its direction is 0 or 1 and it is running with count 0 to 7 or
-/// finished with count 8.
+/// One lane's record. It is sound if it is all zero, which is idle, or if its owner is not 0, its direction and its order are 0 or 1 and it is running with
+/// count 0 to 7 or finished with count 8.
 #[derive(Clone, Copy, PartialEq, Eq)]
 #[repr(C)]
 pub struct Lane {
@@ -60,7 +71,8 @@ pub struct Lane {
     pub direction: u8,
     /// The number of the guest that opened it; 0 while it is idle.
     pub owner: u16,
-    /// Its own turns since it was opened.
+    /// Its own turns since it was opened, and in its upper half the number of its order, which is 0 in a lane of [`Order::Number`]: [`Lane::turns`] and
+    /// [`Lane::order`] tell the two apart. (In C they are two members of 16 bits.)
     pub count: u32,
     /// Its round words. They are zero after a take or a close.
     pub words: [u32; 80],
@@ -78,6 +90,8 @@ const _: () = assert!(
         && offset_of!(Lane, count) == 4
 );
 const _: () = assert!(offset_of!(Lane, words) == 8 && offset_of!(Lane, state) == 328);
+// The turns are the lower half of a lane's count, and lie before the order.
+const _: () = assert!(cfg!(target_endian = "little"));
 
 impl Lane {
     /// The phase of a lane that can be opened.
@@ -101,17 +115,30 @@ impl Lane {
             s3: 0,
         },
     };
+
+    /// Its own turns since it was opened.
+    pub const fn turns(&self) -> u16 {
+        self.count as u16
+    }
+
+    /// The number of its order, by which a take writes its block: 0 or 1 in a sound record.
+    pub const fn order(&self) -> u16 {
+        (self.count >> 16) as u16
+    }
 }
 
 /// Tells neither round words nor state.
 impl fmt::Debug for Lane {
     fn fmt(&self, f: &mut fmt::Formatter<'_>) -> fmt::Result {
-        f.debug_struct("Lane")
-            .field("phase", &self.phase)
+        let mut told = f.debug_struct("Lane");
+        told.field("phase", &self.phase)
             .field("direction", &self.direction)
             .field("owner", &self.owner)
-            .field("count", &self.count)
-            .finish_non_exhaustive()
+            .field("count", &self.turns());
+        if self.order() != 0 {
+            told.field("order", &self.order());
+        }
+        told.finish_non_exhaustive()
     }
 }
 
@@ -173,7 +200,21 @@ impl Bench {
         key: &[u8],
         block: &[u8],
     ) -> Result<(), Refusal> {
-        calls::open_lane(
+        self.open_in(Order::Number, lane, owner, direction, key, block)
+    }
+
+    /// The same, the block read in an order, in which a take writes it too.
+    pub fn open_in(
+        &mut self,
+        order: Order,
+        lane: u32,
+        owner: Owner,
+        direction: Direction,
+        key: &[u8],
+        block: &[u8],
+    ) -> Result<(), Refusal> {
+        calls::open_lane_in(
+            order as u32,
             &mut self.lanes,
             self.last,
             lane,

@@ -6,7 +6,7 @@
 
 use core::sync::atomic::{AtomicBool, Ordering};
 
-use crate::bench::Lane;
+use crate::bench::{Lane, Order};
 use crate::counter::Stream;
 use crate::mac::MacState;
 use crate::Refusal;
@@ -51,10 +51,20 @@ const _: () = assert!(size_of::<StreamStarted>() == 364);
 
 extern "C" {
     fn gift_host_edition() -> u32;
-    fn gift_encrypt_by_key(key: *const u8, key_len: usize, block: *mut u8, block_len: usize)
-        -> u32;
-    fn gift_decrypt_by_key(key: *const u8, key_len: usize, block: *mut u8, block_len: usize)
-        -> u32;
+    fn gift_encrypt_by_key(
+        order: u32,
+        key: *const u8,
+        key_len: usize,
+        block: *mut u8,
+        block_len: usize,
+    ) -> u32;
+    fn gift_decrypt_by_key(
+        order: u32,
+        key: *const u8,
+        key_len: usize,
+        block: *mut u8,
+        block_len: usize,
+    ) -> u32;
     fn gift_plain_encrypt_by_key(
         key: *const u8,
         key_len: usize,
@@ -68,12 +78,14 @@ extern "C" {
         block_len: usize,
     ) -> u32;
     fn gift_encrypt_by_words(
+        order: u32,
         words: *const u32,
         words_len: usize,
         block: *mut u8,
         block_len: usize,
     ) -> u32;
     fn gift_decrypt_by_words(
+        order: u32,
         words: *const u32,
         words_len: usize,
         block: *mut u8,
@@ -81,6 +93,7 @@ extern "C" {
     ) -> u32;
     fn gift_expand(key: *const u8, key_len: usize, words: *mut u32, words_len: usize) -> u32;
     fn gift_encrypt_blocks(
+        order: u32,
         key: *const u8,
         key_len: usize,
         input: *const u8,
@@ -89,6 +102,7 @@ extern "C" {
         output_len: usize,
     ) -> u32;
     fn gift_decrypt_blocks(
+        order: u32,
         key: *const u8,
         key_len: usize,
         input: *const u8,
@@ -103,6 +117,7 @@ extern "C" {
         lane: u32,
         owner: u16,
         direction: u32,
+        order: u32,
         key: *const u8,
         key_len: usize,
         block: *const u8,
@@ -194,8 +209,11 @@ extern "C" {
     ) -> u32;
 }
 
+/// The order of every call that names none.
+const NUMBER: u32 = Order::Number as u32;
+
 /// The edition of the library that this crate declares, as GIFT_HOST_EDITION of include/gift_host.h.
-pub const EDITION: u32 = 4;
+pub const EDITION: u32 = 5;
 
 /// The edition of the library that is linked.
 pub fn edition() -> u32 {
@@ -224,16 +242,42 @@ fn answer(number: u32) -> Result<(), Refusal> {
     }))
 }
 
-/// Encrypts one block by a key, in place. Refusals: 1, 2.
+/// Encrypts one block by a key, in place, in order 0. Refusals: 1, 2.
 pub fn encrypt_by_key(key: &[u8], block: &mut [u8]) -> Result<(), Refusal> {
-    linked();
-    answer(unsafe { gift_encrypt_by_key(key.as_ptr(), key.len(), block.as_mut_ptr(), block.len()) })
+    encrypt_by_key_in(NUMBER, key, block)
 }
 
-/// Decrypts one block by a key, in place. Refusals: 1, 2.
-pub fn decrypt_by_key(key: &[u8], block: &mut [u8]) -> Result<(), Refusal> {
+/// The same in an order. Refusals: 13, 1, 2.
+pub fn encrypt_by_key_in(order: u32, key: &[u8], block: &mut [u8]) -> Result<(), Refusal> {
     linked();
-    answer(unsafe { gift_decrypt_by_key(key.as_ptr(), key.len(), block.as_mut_ptr(), block.len()) })
+    answer(unsafe {
+        gift_encrypt_by_key(
+            order,
+            key.as_ptr(),
+            key.len(),
+            block.as_mut_ptr(),
+            block.len(),
+        )
+    })
+}
+
+/// Decrypts one block by a key, in place, in order 0. Refusals: 1, 2.
+pub fn decrypt_by_key(key: &[u8], block: &mut [u8]) -> Result<(), Refusal> {
+    decrypt_by_key_in(NUMBER, key, block)
+}
+
+/// The same in an order. Refusals: 13, 1, 2.
+pub fn decrypt_by_key_in(order: u32, key: &[u8], block: &mut [u8]) -> Result<(), Refusal> {
+    linked();
+    answer(unsafe {
+        gift_decrypt_by_key(
+            order,
+            key.as_ptr(),
+            key.len(),
+            block.as_mut_ptr(),
+            block.len(),
+        )
+    })
 }
 
 /// Encrypts one block by a key, in place, by the plain engine: slow, and proved to answer as [`encrypt_by_key`]. Refusals: 1, 2.
@@ -252,19 +296,41 @@ pub fn plain_decrypt_by_key(key: &[u8], block: &mut [u8]) -> Result<(), Refusal>
     })
 }
 
-/// Encrypts one block by 80 round words, in place: those of [`expand`], or any others. Refusals: 4, 2.
+/// Encrypts one block by 80 round words, in place, in order 0: those of [`expand`], or any others. Refusals: 4, 2.
 pub fn encrypt_by_words(words: &[u32], block: &mut [u8]) -> Result<(), Refusal> {
+    encrypt_by_words_in(NUMBER, words, block)
+}
+
+/// The same in an order. Refusals: 13, 4, 2.
+pub fn encrypt_by_words_in(order: u32, words: &[u32], block: &mut [u8]) -> Result<(), Refusal> {
     linked();
     answer(unsafe {
-        gift_encrypt_by_words(words.as_ptr(), words.len(), block.as_mut_ptr(), block.len())
+        gift_encrypt_by_words(
+            order,
+            words.as_ptr(),
+            words.len(),
+            block.as_mut_ptr(),
+            block.len(),
+        )
     })
 }
 
-/// Decrypts one block by 80 round words, in place. Refusals: 4, 2.
+/// Decrypts one block by 80 round words, in place, in order 0. Refusals: 4, 2.
 pub fn decrypt_by_words(words: &[u32], block: &mut [u8]) -> Result<(), Refusal> {
+    decrypt_by_words_in(NUMBER, words, block)
+}
+
+/// The same in an order. Refusals: 13, 4, 2.
+pub fn decrypt_by_words_in(order: u32, words: &[u32], block: &mut [u8]) -> Result<(), Refusal> {
     linked();
     answer(unsafe {
-        gift_decrypt_by_words(words.as_ptr(), words.len(), block.as_mut_ptr(), block.len())
+        gift_decrypt_by_words(
+            order,
+            words.as_ptr(),
+            words.len(),
+            block.as_mut_ptr(),
+            block.len(),
+        )
     })
 }
 
@@ -274,11 +340,22 @@ pub fn expand(key: &[u8], words: &mut [u32]) -> Result<(), Refusal> {
     answer(unsafe { gift_expand(key.as_ptr(), key.len(), words.as_mut_ptr(), words.len()) })
 }
 
-/// Encrypts many blocks by a key: block n of the output from block n of the input, each by itself. Refusals: 1, 2, 3.
+/// Encrypts many blocks by a key, in order 0: block n of the output from block n of the input, each by itself. Refusals: 1, 2, 3.
 pub fn encrypt_blocks(key: &[u8], input: &[u8], output: &mut [u8]) -> Result<(), Refusal> {
+    encrypt_blocks_in(NUMBER, key, input, output)
+}
+
+/// The same in an order. Refusals: 13, 1, 2, 3.
+pub fn encrypt_blocks_in(
+    order: u32,
+    key: &[u8],
+    input: &[u8],
+    output: &mut [u8],
+) -> Result<(), Refusal> {
     linked();
     answer(unsafe {
         gift_encrypt_blocks(
+            order,
             key.as_ptr(),
             key.len(),
             input.as_ptr(),
@@ -289,11 +366,22 @@ pub fn encrypt_blocks(key: &[u8], input: &[u8], output: &mut [u8]) -> Result<(),
     })
 }
 
-/// Decrypts many blocks by a key. Refusals: 1, 2, 3.
+/// Decrypts many blocks by a key, in order 0. Refusals: 1, 2, 3.
 pub fn decrypt_blocks(key: &[u8], input: &[u8], output: &mut [u8]) -> Result<(), Refusal> {
+    decrypt_blocks_in(NUMBER, key, input, output)
+}
+
+/// The same in an order. Refusals: 13, 1, 2, 3.
+pub fn decrypt_blocks_in(
+    order: u32,
+    key: &[u8],
+    input: &[u8],
+    output: &mut [u8],
+) -> Result<(), Refusal> {
     linked();
     answer(unsafe {
         gift_decrypt_blocks(
+            order,
             key.as_ptr(),
             key.len(),
             input.as_ptr(),
@@ -304,8 +392,23 @@ pub fn decrypt_blocks(key: &[u8], input: &[u8], output: &mut [u8]) -> Result<(),
     })
 }
 
-/// Opens an idle lane of a lent bench for a guest on a key and a block, to encrypt (0) or decrypt (1). Refusals: 10, 5, 6, 11, 9, 1, 2.
+/// Opens an idle lane of a lent bench for a guest on a key and a block in order 0, to encrypt (0) or decrypt (1). Refusals: 10, 5, 6, 11, 9, 1, 2.
 pub fn open_lane(
+    lanes: &mut [Lane],
+    last: u32,
+    lane: u32,
+    owner: u16,
+    direction: u32,
+    key: &[u8],
+    block: &[u8],
+) -> Result<(), Refusal> {
+    open_lane_in(NUMBER, lanes, last, lane, owner, direction, key, block)
+}
+
+/// The same in an order. Refusals: 10, 5, 6, 11, 9, 13, 1, 2.
+#[allow(clippy::too_many_arguments)]
+pub fn open_lane_in(
+    order: u32,
     lanes: &mut [Lane],
     last: u32,
     lane: u32,
@@ -323,6 +426,7 @@ pub fn open_lane(
             lane,
             owner,
             direction,
+            order,
             key.as_ptr(),
             key.len(),
             block.as_ptr(),

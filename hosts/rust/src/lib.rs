@@ -13,7 +13,7 @@ mod refusal;
 
 use core::fmt;
 
-pub use bench::{Bench, Direction, Lane, Owner, State};
+pub use bench::{Bench, Direction, Lane, Order, Owner, State};
 pub use counter::{Counter, Stream};
 pub use gift64::Gift64;
 pub use mac::{Mac, MacState};
@@ -66,6 +66,16 @@ impl Gift128 {
     /// Decrypts one block whose length is still to be seen. Refusal: 2.
     pub fn decrypt_slice(&self, block: &mut [u8]) -> Result<(), Refusal> {
         calls::decrypt_by_words(&self.k, block)
+    }
+
+    /// Encrypts one block in place, in an order.
+    pub fn encrypt_block_in(&self, order: Order, block: &mut [u8; 16]) {
+        calls::encrypt_by_words_in(order as u32, &self.k, block).expect(BY_TYPE)
+    }
+
+    /// Decrypts one block in place, in an order.
+    pub fn decrypt_block_in(&self, order: Order, block: &mut [u8; 16]) {
+        calls::decrypt_by_words_in(order as u32, &self.k, block).expect(BY_TYPE)
     }
 
     /// Encrypts each block by itself, in place.

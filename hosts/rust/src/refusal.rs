@@ -30,11 +30,13 @@ pub enum Refusal {
     NotTheOwner = 11,
     /// 12: a piece needs more counters than the stream has left.
     TooFewCounters = 12,
+    /// 13: an order that is neither 0 nor 1.
+    BadOrder = 13,
 }
 
 impl Refusal {
-    /// All twelve, in the order of their numbers.
-    pub const ALL: [Refusal; 12] = [
+    /// All thirteen, in the order of their numbers.
+    pub const ALL: [Refusal; 13] = [
         Refusal::BadKeyLength,
         Refusal::BadBlockLength,
         Refusal::BadOutputLength,
@@ -47,9 +49,10 @@ impl Refusal {
         Refusal::BadBench,
         Refusal::NotTheOwner,
         Refusal::TooFewCounters,
+        Refusal::BadOrder,
     ];
 
-    /// Its number, 1 to 12.
+    /// Its number, 1 to 13.
     pub const fn number(self) -> u32 {
         self as u32
     }
@@ -88,6 +91,7 @@ impl fmt::Display for Refusal {
             Refusal::BadBench => "the bench is not sound",
             Refusal::NotTheOwner => "the lane is another's",
             Refusal::TooFewCounters => "the stream has too few counters left",
+            Refusal::BadOrder => "the order is neither 0 nor 1",
         })
     }
 }

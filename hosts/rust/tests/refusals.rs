@@ -8,13 +8,13 @@ const WORD_COUNTS: [usize; 7] = [0, 1, 16, 79, 80, 81, 160];
 
 #[test]
 fn numbers_and_names() {
-    for (n, refusal) in (1..).zip(Refusal::ALL) {
+    for (n, refusal) in (1..=13).zip(Refusal::ALL) {
         assert_eq!(
             (refusal.number(), u32::from(refusal), Refusal::try_from(n)),
             (n, n, Ok(refusal))
         );
     }
-    for n in [0, 13, 255, 256, 257, u32::MAX] {
+    for n in [0, 14, 255, 256, 257, u32::MAX] {
         assert_eq!(Refusal::try_from(n), Err(n));
     }
     let told: std::collections::HashSet<String> =
@@ -278,7 +278,7 @@ fn unsound_benches() {
     let mut refusals = 0;
     for phase in [0, 1, 2, 3, 255] {
         for (direction, owner) in [(0, 1), (1, 65535), (2, 1), (255, 1), (0, 0), (1, 256)] {
-            for count in [0, 1, 7, 8, 9, 255, 256, 263, 264, 65544, u32::MAX] {
+            for count in [0, 1, 7, 8, 9, 255, 256, 263, 264, 131080, u32::MAX] {
                 for place in 0..Bench::LANES as usize {
                     let mut lanes = *some_bench().records();
                     lanes[place] = Lane {

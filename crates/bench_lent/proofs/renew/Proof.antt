@@ -1,4 +1,4 @@
--- `bench_lent::renew` stores all of a record but its owner and its round words: a walk of its MIR, by hand.
+-- `bench_lent::renew` stores all of a record but its owner, its order and its round words: a walk of its MIR, by hand.
 -- Assumes nothing.
 use mathlib.Core.Path.{_≡_, refl, sym, subst}
 use mathlib.Core.List.{List, [], _∷_}
@@ -68,7 +68,7 @@ module _ {M : Type 1} (𝓤 : URA M) (H : Heap 𝓤) (A : Atoms 𝓤) (W : Given
   is-new was =
       let f = LL.owed L.the-type L′.the-laws l _ (are .1 .0) in
       let g = LL.owed L.the-type L′.the-laws old _ was in
-      let is : Is R new (LL.vals L.the-type L′.the-laws new) = LL.owes L.the-type L′.the-laws new (f .0, (f .1 .0, (g .1 .1 .0, (f .1 .1 .1 .0, (g .1 .1 .1 .1 .0, (f .1 .1 .1 .1 .1 .0, tt)))))) in
+      let is : Is R new (LL.vals L.the-type L′.the-laws new) = LL.owes L.the-type L′.the-laws new (f .0, (f .1 .0, (g .1 .1 .0, (f .1 .1 .1 .0, (g .1 .1 .1 .1 .0, (g .1 .1 .1 .1 .1 .0, (f .1 .1 .1 .1 .1 .1 .0, tt))))))) in
       subst (Is R new) (lane .tells new _ is) is
 
   walk : ent 𝓤 (sep 𝓤 (sem 𝓤 H A (held b o (length ys) κ γ ys)) (A .lft κ s)) (WpFn 𝓤 H C Λ code.function (mach b o (length ys) ∷ vint w64 n ∷ lane .low l ∷ []) (Leaves Renew 𝓤 H A W κ s b o γ ys a))
@@ -80,7 +80,7 @@ module _ {M : Type 1} (𝓤 : URA M) (H : Heap 𝓤) (A : Atoms 𝓤) (W : Given
       -- the record is taken out of the row
       elem-out ! R (Is R) (shows 𝓤 H A R) vals (lane .tells) fullShare ys n none b o inside (λ was.
       use1 W (‵ (fat fullShare (lane .ty) b (place (mem R .size) o n) (lane .low old))) (W .laws .raw-at fullShare (lane .ty) b (place (mem R .size) o n) (lane .low old)) $
-      -- each field but the owner and the words: the pointer to the record, and a store through it
+      -- each field but the owner, the order and the words: the pointer to the record, and a store through it
       lets ! (bin ! (var ! 16 refl) (lit ! tt) (record { fits = fits })) 12 refl (tt, record { fits = fits }) $ lets ! (bin ! (part ! 18 0 refl refl refl) (var ! 12 refl) tt) 10 refl (tt, tt) $
       rewrite ! 10 (λ (p : ℕ). ‵ (fat fullShare tyPtr (at .1 .1 .1 .1 .1 .0) 0 (vptr b p))) (sym (place-is (mem R .size) o n)) refl $
       assigns ! (of-opd ! (part ! 14 0 refl refl refl)) (from ! (hop ! (look ! 10 refl) (fld ! refl (stop !)))) (store-in ! 0 (sub ! 0 refl (whole !)) (tt, new-typed .1 .0)) $
@@ -92,7 +92,7 @@ module _ {M : Type 1} (𝓤 : URA M) (H : Heap 𝓤) (A : Atoms 𝓤) (W : Given
       assigns ! (of-opd ! (part ! 14 3 refl refl refl)) (from ! (hop ! (look ! 6 refl) (fld ! refl (stop !)))) (store-in ! 0 (sub ! 3 refl (whole !)) (tt, new-typed .1 .1 .1 .1 .0)) $
       assigns ! (bin ! (var ! 16 refl) (lit ! tt) (record { fits = fits })) (from ! (stop !)) (store ! 12 refl (tt, record { fits = fits })) $ lets ! (bin ! (part ! 18 0 refl refl refl) (var ! 12 refl) tt) 4 refl (tt, tt) $
       rewrite ! 4 (λ (p : ℕ). ‵ (fat fullShare tyPtr (at .1 .1 .1 .1 .1 .1 .1 .1 .0) 0 (vptr b p))) (sym (place-is (mem R .size) o n)) refl $
-      assigns ! (of-opd ! (part ! 14 5 refl refl refl)) (from ! (hop ! (look ! 4 refl) (fld ! refl (stop !)))) (store-in ! 0 (sub ! 5 refl (whole !)) (tt, new-typed .1 .1 .1 .1 .1 .1 .0)) $
+      assigns ! (of-opd ! (part ! 14 6 refl refl refl)) (from ! (hop ! (look ! 4 refl) (fld ! refl (stop !)))) (store-in ! 0 (sub ! 6 refl (whole !)) (tt, new-typed .1 .1 .1 .1 .1 .1 .1 .0)) $
       -- and it is put back
       use1 W (‵ (cellAt fullShare (R .mir) (vals new) b (place (mem R .size) o n))) (W .laws .at-raw fullShare (lane .ty) b (place (mem R .size) o n) (lane .low new)) $ move ! (1 ∷ []) $ drop ! $
       owned ! R (Is R) (lane .makes 𝓤 H A W) new _ (is-new was) $ move ! (1 ∷ 0 ∷ 2 ∷ []) $ elem-put ! R fullShare ys n new (vals new) b o inside $

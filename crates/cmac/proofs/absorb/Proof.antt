@@ -5,7 +5,7 @@ use Prim.Native.Nat.{ℕ}
 use borrow.Author.Needs.{needs}
 use denote.Ref.{now}
 use Rattle.gift128.specs.Calls.{encryptedBy}
-use Rattle.cmac.proofs.Chaining.{encrypts}
+use Rattle.gift128.proofs.OrderZero.{encrypts}
 use Rattle.cmac.proofs.absorb.Statement.{statement}
 use Rattle.cmac.proofs.absorb.Tie as tie
 

@@ -3,7 +3,7 @@ use mathlib.Core.Path.{ap, _∙_}
 use borrow.Author.Needs.{needs}
 use denote.Ref.{now}
 use Rattle.gift128.specs.Calls.{encryptedBy}
-use Rattle.counter.proofs.Blocks.{encrypts}
+use Rattle.gift128.proofs.OrderZero.{encrypts}
 use Rattle.counter.proofs.key_block.Statement.{statement}
 use Rattle.counter.proofs.key_block.Tie as tie
 
@@ -12,7 +12,7 @@ returns c =
     let laying = c .before .before .before .before .before .before in
     let start = laying .before .before .before .before .before in
     let words = now (start .args .words) in
-    encrypts words (laying .counter-block .last .1 .1 .0) (c .before .before .encrypt-by-words .last .1 .0) _ (start .pre .0) (laying .counter-block .kept .1 .1 .0 ∙ start .pre .1 .1)
+    encrypts words (laying .counter-block .last .1 .1 .0) (start .pre .0) (laying .counter-block .kept .1 .1 .0 ∙ start .pre .1 .1)
     (c .before .before .encrypt-by-words .ensures) ∙ ap (encryptedBy words) (laying .counter-block .ensures)
 
 pub key-block-spec : {M : Type 1} → statement M

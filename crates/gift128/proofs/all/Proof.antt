@@ -7,18 +7,19 @@ use lib.ListN.{length, take}
 use borrow.Rule.Slice.PartMut.{same-len-mid}
 use denote.Ref.{now}
 use Rattle.published.specs.Blocks.{eachOf}
+use Rattle.published.specs.Seen.{seen}
 use Rattle.published.proofs.Many.{each-none, one-part}
-use Rattle.gift128.specs.Ways.{crossedBy}
+use Rattle.gift128.specs.Calls.{roundsBy}
 use Rattle.gift128.proofs.Many.{sixteen-more, all-written}
 use Rattle.gift128.proofs.all.Statement.{statement}
 use Rattle.gift128.proofs.all.Tie as tie
 
 abbrev Inv-loop : tie.InvT-loop
-Inv-loop rkey input output₀ back a₀ output a =
-    (a % 16 ≡ 0) × (a ≤ length input) × (length output ≡ length output₀) × (take a output ≡ eachOf 16 (crossedBy back rkey) (a / 16) input)
+Inv-loop order rkey input output₀ back a₀ output a =
+    (a % 16 ≡ 0) × (a ≤ length input) × (length output ≡ length output₀) × (take a output ≡ eachOf 16 (seen order (roundsBy back rkey)) (a / 16) input)
 
 abbrev μ-loop : tie.MeasureT-loop
-μ-loop rkey input output₀ back a₀ output a = length input - a
+μ-loop order rkey input output₀ back a₀ output a = length input - a
 
 loop-holds : tie.Need-loop-holds Inv-loop μ-loop
 loop-holds c = (refl, omega arith, refl, sym (each-none 16 _ _))
@@ -29,7 +30,7 @@ into-requires c κs =
     let start = c .before .before .before .before .before .before .before in
     let room : l .a + 16 ≤ length (now (start .args .input)) = omega arith in
     let room′ : l .a + 16 ≤ length (l .output) = omega arith in
-    (start .pre .0, (one-part 16 (l .a) (now (start .args .input)) room, one-part 16 (l .a) (l .output) room′))
+    (start .pre .0, (start .pre .1 .0, (one-part 16 (l .a) (now (start .args .input)) room, one-part 16 (l .a) (l .output) room′)))
 
 loop-again : tie.Need-loop-again Inv-loop μ-loop
 loop-again c =
@@ -38,18 +39,18 @@ loop-again c =
     let start = c .before .before .before .before .before .before .before .before .before .before in
     let input : List ℕ = now (start .args .input) in
     let room : l .a + 16 ≤ length (l .output) = omega arith in
-    let len : length (call .last .1 .1 .0) ≡ 16 = call .kept .1 .1 .0 ∙ one-part 16 (l .a) (l .output) room in (
+    let len : length (call .last .1 .1 .1 .0) ≡ 16 = call .kept .1 .1 .1 .0 ∙ one-part 16 (l .a) (l .output) room in (
       omega arith,
       omega arith,
-      same-len-mid (l .a) (l .a + 16 - l .a) (l .output) (call .last .1 .1 .0) (call .kept .1 .1 .0) ∙ l .inv .2,
-      sixteen-more (crossedBy (start .args .back) (now (start .args .rkey))) input (l .output) (call .last .1 .1 .0) _ (l .a) (l .inv .0) (omega arith) len (l .inv .3) (call .ensures),
+      same-len-mid (l .a) (l .a + 16 - l .a) (l .output) (call .last .1 .1 .1 .0) (call .kept .1 .1 .1 .0) ∙ l .inv .2,
+      sixteen-more (seen (start .args .order) (roundsBy (start .args .back) (now (start .args .rkey)))) input (l .output) (call .last .1 .1 .1 .0) _ (l .a) (l .inv .0) (omega arith) len (l .inv .3) (call .ensures),
     )
 
 returns : tie.Need-returns Inv-loop μ-loop
 returns c =
     let l = c .before .loop in
     let start = c .before .before .before .before .before in
-    all-written (crossedBy (start .args .back) (now (start .args .rkey))) (now (start .args .input)) (l .output) (l .a) (omega arith) (omega arith) (l .inv .3)
+    all-written (seen (start .args .order) (roundsBy (start .args .back) (now (start .args .rkey)))) (now (start .args .input)) (l .output) (l .a) (omega arith) (omega arith) (l .inv .3)
 
 pub all-spec : {M : Type 1} → statement M
 all-spec =

@@ -8,8 +8,8 @@ use Rattle.gift128.proofs.into.Tie as tie
 returns : tie.Need-returns
 returns c =
     let start = c .before .before .before .before .before .before .before .before .before in
-    crossing (start .args .back) (now (start .args .rkey)) (c .before .before .before .before .before .packing .result) (c .before .before .before .before .through .result) (now (start .args .input)) (now (start .args .output)) _
-    (start .pre .1 .0) (λ i. c .before .before .before .before .before .before .before .shared-slice-known2 .given i .fits) (start .pre .1 .1)
+    crossing (start .args .order) (start .pre .0) (start .args .back) (now (start .args .rkey)) (c .before .before .before .before .before .packing .result) (c .before .before .before .before .through .result) (now (start .args .input)) (now (start .args .output)) _
+    (start .pre .1 .1 .0) (λ i. c .before .before .before .before .before .before .before .shared-slice-known2 .given i .fits) (start .pre .1 .1 .1)
     (c .before .before .before .before .before .packing .ensures) (c .before .before .before .before .through .ensures) (c .before .before .unpacking .ensures)
 
 pub into-spec : {M : Type 1} → statement M

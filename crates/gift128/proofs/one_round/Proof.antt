@@ -1,5 +1,5 @@
 -- `gift128::one_round`: its number first, and if that is 0 the state after round 1 by the words of the key.
-use mathlib.Core.Path.{_≡_, sym, ap, _∙_}
+use mathlib.Core.Path.{_≡_, refl, sym, ap, _∙_}
 use mathlib.Core.List.{List}
 use Prim.Native.Nat.{ℕ}
 use lib.ListN.{length, take}
@@ -33,7 +33,7 @@ returns-2 c =
     let ps : List Pair = take 1 (pairsOf key) in
     let passed : (length key ≡ 16) × (length block ≡ 16) = key-passed _ _ (sym (at .before .key-code .ensures) ∙ at .if1 .left) in
     done (at .before .key-code .ensures) (at .if1 .left)
-    (through (rounds128 ps 0) (packs .packing .result) (once .first-round .result) block block _ (rounds-lt 128 1 width128 ps 0) (passed .1)
+    (through 0 refl (rounds128 ps 0) (packs .packing .result) (once .first-round .result) block block _ (rounds-lt 128 1 width128 ps 0) (passed .1)
     (λ i. at .before .before .slice-known .given i .fits) (passed .1) (packs .packing .ensures)
     (once .first-round .ensures ∙ ap (firstRound (packs .packing .result)) (expanding .precompute-rkeys .ensures .leaves ∙ filled key (passed .0)) ∙ first-of-key key (packs .packing .result))
     (c .before .before .unpacking .ensures))

@@ -6,7 +6,7 @@ use Rattle.lane.proofs.yielded.Tie as tie
 
 returns : tie.Need-returns
 unfolding yielded
-returns c = search needs
+returns c = c .before .before .unpacking .ensures
 
 pub yielded-spec : {M : Type 1} → statement M
-yielded-spec = tie.close (tie.spec (λ c κs. search needs) (λ c. search needs) returns)
+yielded-spec = tie.close (tie.spec (λ c. search needs) (λ c κs. search needs) (λ c. search needs) returns)

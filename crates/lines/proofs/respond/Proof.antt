@@ -1,5 +1,5 @@
 -- `lines::respond` calls the cipher by the letter and writes what it left.
-use mathlib.Core.Path.{sym, ap, _∙_}
+use mathlib.Core.Path.{refl, sym, ap, _∙_}
 use mathlib.Core.List.{List, []}
 use Prim.Native.Nat.{ℕ}
 use borrow.Author.Needs.{needs}
@@ -9,7 +9,7 @@ use Rattle.packing.proofs.Inverse.{packed-block}
 use Rattle.lines.specs.Hex.{hexOf}
 use Rattle.lines.specs.Line.{wordsText, packedText}
 use Rattle.lines.specs.Written.{written}
-use Rattle.lines.proofs.Responses.{leaves, response-E, response-D, response-R, response-F, response-G, response-P}
+use Rattle.lines.proofs.Responses.{leaves, encrypts, decrypts, response-E, response-D, response-R, response-F, response-G, response-P}
 use Rattle.lines.proofs.respond.Statement.{statement}
 use Rattle.lines.proofs.respond.Tie as tie
 
@@ -23,7 +23,7 @@ returns c =
     let block : List ℕ = s .args .block .now in
     c .push-hex .ensures [] (c2 .empty .ensures)
     ∙ ap written
-    (ap hexOf (leaves key block (s .pre .0) (s .pre .1) (called .encrypt-by-key .ensures))
+    (ap hexOf (leaves key block (s .pre .0) (s .pre .1) (encrypts key block (called .encrypt-by-key .ensures)))
     ∙ sym (response-E (s .args .letter) key block (p1 .if1 .taken)))
 
 returns-2 : tie.Need-returns-2
@@ -37,7 +37,7 @@ returns-2 c =
     let block : List ℕ = s .args .block .now in
     c .push-hex2 .ensures [] (c2 .empty2 .ensures)
     ∙ ap written
-    (ap hexOf (leaves key block (s .pre .0) (s .pre .1) (called .decrypt-by-key .ensures))
+    (ap hexOf (leaves key block (s .pre .0) (s .pre .1) (decrypts key block (called .decrypt-by-key .ensures)))
     ∙ sym (response-D (s .args .letter) key block (p1 .if1 .left) (p2 .if2 .taken)))
 
 returns-3 : tie.Need-returns-3
@@ -102,7 +102,7 @@ returns-6 c =
     let block : List ℕ = s .args .block .now in
     c .words-text .ensures
     ∙ ap written
-    (ap (λ (t : State). wordsText (t .s0) (t .s1) (t .s2) (t .s3)) (called .packing .ensures ∙ packed-block block (s .pre .1))
+    (ap (λ (t : State). wordsText (t .s0) (t .s1) (t .s2) (t .s3)) (called .packing .ensures ∙ packed-block 0 block refl (s .pre .1))
     ∙ sym (response-P (s .args .letter) key block (p1 .if1 .left) (p2 .if2 .left) (p3 .if3 .left) (p4 .if4 .left) (p5 .if5 .left)))
 
 pub respond-spec : {M : Type 1} → statement M

@@ -1,46 +1,37 @@
--- `packing::packing` reads the halves, gathers their bits and takes the words from them.
-use mathlib.Core.Path.{_≡_, sym, ap, ap₂, _∙_}
+-- `packing::packing` reads sixteen bytes as their order has them, and nothing else.
+use mathlib.Core.Path.{refl, sym, ap, _∙_}
 use mathlib.Core.List.{List}
 use Prim.Native.Nat.{ℕ}
-use lib.Dec.{T, ltb, lit<}
-use lib.ListN.{length}
-use borrow.Author.Needs.{needs}
-use Rattle.published.specs.Bytes.{fromBytes}
-use Rattle.published.specs.Packing.{word}
-use Rattle.primitives.specs.Packed.{stateOf}
-use Rattle.packing.specs.Inner.{reordered, gatheredFrom, wordFrom}
-use Rattle.packing.proofs.Halves.{words, reads}
-use Rattle.packing.proofs.Inverse.{packed-block, packed-other}
+use native.Mathlib.Omega.{arith}
+use borrow.Author.Tests.{lt-leb}
+use Rattle.packing.specs.Packing.{packed}
+use Rattle.packing.proofs.Inverse.{packed-block, packed-other, packed-in-none}
 use Rattle.packing.proofs.packing.Statement.{statement}
 use Rattle.packing.proofs.packing.Tie as tie
 
 returns : tie.Need-returns
-unfolding stateOf
 returns c =
-    let w0 = c .before .before .before in
-    let l = w0 .before in
-    let h = l .before .before in
-    let bs : List ℕ = h .before .before .before .before .args .input .now in
-    let len : length bs ≡ 16 = h .before .before .if1 .taken in
-    let halves = reads bs (h .before .half-at .result) (l .before .half-at2 .result) len (h .before .half-at .ensures) (l .before .half-at2 .ensures) (search needs) (search needs) in
-    let high = h .gather .ensures ∙ ap (reordered gatheredFrom) (halves .0) in
-    let low = l .gather2 .ensures ∙ ap (reordered gatheredFrom) (halves .1) in
-    let is-word : (j : ℕ) → T (ltb j 4) → wordFrom (h .gather .result) (l .gather2 .result) j ≡ word 128 (fromBytes bs) j =
-    λ j t. ap₂ (λ (a b : ℕ). wordFrom a b j) high low ∙ words (fromBytes bs) j (lit< t) in
-    (λ i.
-    record {
-      s0 = (w0 .word .ensures ∙ is-word 0 tt) i;
-      s1 = (c .before .before .word2 .ensures ∙ is-word 1 tt) i;
-      s2 = (c .before .word3 .ensures ∙ is-word 2 tt) i;
-      s3 = (c .word4 .ensures ∙ is-word 3 tt) i;
-    })
-    ∙ sym (packed-block bs len)
+    let at = c .before .before in
+    let bs : List ℕ = at .before .before .args .input .now in
+    c .from-number .ensures ∙ sym (ap (λ (o : ℕ). packed o bs) (c .before .if2 .taken) ∙ packed-block 0 bs refl (at .if1 .taken))
 
 returns-2 : tie.Need-returns-2
-returns-2 c = sym (packed-other (c .before .before .args .input .now) (c .if1 .left))
+returns-2 c =
+    let at = c .before .before .before in
+    let bs : List ℕ = at .before .before .args .input .now in
+    c .from-words .ensures ∙ sym (ap (λ (o : ℕ). packed o bs) (c .before .if3 .taken) ∙ packed-block 1 bs refl (at .if1 .taken))
+
+returns-3 : tie.Need-returns-3
+returns-3 c =
+    let a = c .before .before .before .before .args in
+    sym (packed-in-none (a .order) (a .input .now) (lt-leb (a .order) 1 (omega arith)))
+
+returns-4 : tie.Need-returns-4
+returns-4 c =
+    let a = c .before .before .args in
+    sym (packed-other (a .order) (a .input .now) (c .if1 .left))
 
 pub packing-spec : {M : Type 1} → statement M
 packing-spec =
     tie.close
-    (tie.spec (λ c κs. search needs) (λ c κs. search needs) (λ c κs. search needs) (λ c κs. search needs) (λ c κs. search needs) (λ c κs. search needs) (λ c κs. search needs)
-    (λ c κs. search needs) returns returns-2)
+    (tie.spec (λ c κs. c .before .if1 .taken) returns (λ c κs. c .before .before .if1 .taken) returns-2 returns-3 returns-4)

@@ -1,46 +1,39 @@
--- `packing::unpacking` makes the halves of the words, scatters their bits and puts them as bytes.
-use mathlib.Core.Path.{_≡_, sym, ap, ap₂, _∙_}
-use mathlib.Core.List.{List}
+-- `packing::unpacking` writes sixteen bytes as their order has them, and nothing else.
+use mathlib.Core.Path.{refl, sym, ap, _∙_}
 use Prim.Native.Nat.{ℕ}
-use lib.Dec.{T, ltb, lit<}
-use lib.ListN.{length}
+use native.Mathlib.Omega.{arith}
 use borrow.Author.Needs.{needs}
-use Rattle.published.specs.Bytes.{toBytes}
-use Rattle.primitives.specs.declared.State.{State}
-use Rattle.primitives.specs.Packed.{blockOf, Words}
-use Rattle.primitives.proofs.Blocks.{stateOf-blockOf}
-use Rattle.packing.specs.Inner.{copied, reordered, scatteredFrom, halfFrom}
-use Rattle.packing.proofs.Halves.{halfOf, scattered-half, puts}
-use Rattle.packing.proofs.Inverse.{unpacked-block, unpacked-other}
+use borrow.Author.Tests.{lt-leb}
+use Rattle.packing.specs.Packing.{unpacked}
+use Rattle.packing.proofs.Inverse.{unpacked-block, unpacked-other, unpacked-in-none}
 use Rattle.packing.proofs.unpacking.Statement.{statement}
 use Rattle.packing.proofs.unpacking.Tie as tie
 
-words : (c : tie.Start) → Words (c .args .state)
-words c = search needs
-
 returns : tie.Need-returns
 returns c =
-    let low = c .before .before in
-    let high = low .before .before .before .before .before .before .before in
-    let test = high .before .before .before .before .before in
-    let start = test .before .before in
-    let s : State = start .args .state in
-    let out : List ℕ = start .args .output .now in
-    let len : length out ≡ 16 = test .if1 .taken in
-    let is-half : (h : ℕ) → T (ltb h 2) → reordered scatteredFrom (halfFrom s h) ≡ halfOf (blockOf s) h =
-    λ h t. ap (λ (s : State). reordered scatteredFrom (halfFrom s h)) (sym (stateOf-blockOf s (words start))) ∙ scattered-half (blockOf s) h (lit< t) in
-    let bytes-high = high .before .bytes .ensures ∙ ap (toBytes 8) (high .before .before .scatter .ensures ∙ ap (reordered scatteredFrom) (high .before .before .before .half .ensures) ∙ is-half 1 tt) in
-    let bytes-low = low .before .bytes2 .ensures ∙ ap (toBytes 8) (low .before .before .scatter2 .ensures ∙ ap (reordered scatteredFrom) (low .before .before .before .half2 .ensures) ∙ is-half 0 tt) in
-    low .put2 .ensures
-    ∙ ap₂ (λ (l new : List ℕ). copied 8 l 8 new) (high .put .ensures ∙ ap (copied 8 out 0) bytes-high) bytes-low
-    ∙ puts (blockOf s) out len
-    ∙ sym (unpacked-block s out len)
+    let test = c .before .before .before .before in
+    let a = test .before .before .before .args in
+    c .before .before .to-number .ensures
+    ∙ sym (ap (λ (o : ℕ). unpacked o (a .state) (a .output .now)) (test .if2 .taken) ∙ unpacked-block 0 (a .state) (a .output .now) refl (test .before .if1 .taken))
 
 returns-2 : tie.Need-returns-2
-returns-2 c = sym (unpacked-other (c .before .before .args .state) (c .before .before .args .output .now) (c .if1 .left))
+returns-2 c =
+    let test = c .before .before .before .before in
+    let a = test .before .before .before .before .args in
+    c .before .before .to-words .ensures
+    ∙ sym (ap (λ (o : ℕ). unpacked o (a .state) (a .output .now)) (test .if3 .taken) ∙ unpacked-block 1 (a .state) (a .output .now) refl (test .before .before .if1 .taken))
+
+returns-3 : tie.Need-returns-3
+returns-3 c =
+    let a = c .before .before .before .before .args in
+    sym (unpacked-in-none (a .order) (a .state) (a .output .now) (lt-leb (a .order) 1 (omega arith)))
+
+returns-4 : tie.Need-returns-4
+returns-4 c =
+    let a = c .before .before .args in
+    sym (unpacked-other (a .order) (a .state) (a .output .now) (c .if1 .left))
 
 pub unpacking-spec : {M : Type 1} → statement M
 unpacking-spec =
     tie.close
-    (tie.spec (λ c κs. search needs) (λ c κs. search needs) (λ c κs. search needs) (λ c κs. search needs) (λ c κs. search needs) (λ c κs. search needs) (λ c κs. search needs)
-    (λ c κs. search needs) (λ c. search needs) returns returns-2)
+    (tie.spec (λ c κs. c .before .before .if1 .taken) (λ c. search needs) returns (λ c κs. c .before .before .before .if1 .taken) (λ c. search needs) returns-2 returns-3 returns-4)

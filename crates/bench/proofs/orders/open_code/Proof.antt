@@ -1,4 +1,4 @@
--- `bench::orders::open_code` tries 10, 5, 6, 11, 9, 1, 2.
+-- `bench::orders::open_code` tries 10, 5, 6, 11, 9, 13, 1, 2.
 use borrow.Author.Needs.{needs}
 use borrow.Author.Tests.{not-true, not-false, lt-ltb, le-ltb, lt-leb, le-leb, ne-eqb}
 use Rattle.bench.specs.Turning.{laneCount}
@@ -46,7 +46,7 @@ returns-6 c =
       at .if3 .left,
       ne-eqb _ 0 (c .before .before .if4 .left),
       le-leb _ 1 (c .before .if5 .left),
-      ne-eqb _ 16 (c .if6 .taken),
+      lt-leb _ 1 (c .if6 .taken),
     )
 
 returns-7 : tie.Need-returns-7
@@ -59,23 +59,41 @@ returns-7 c =
       at .if3 .left,
       ne-eqb _ 0 (c .before .before .before .if4 .left),
       le-leb _ 1 (c .before .before .if5 .left),
-      c .before .if6 .left,
+      le-leb _ 1 (c .before .if6 .left),
       ne-eqb _ 16 (c .if7 .taken),
     )
 
 returns-8 : tie.Need-returns-8
 unfolding openCode laneCount
 returns-8 c =
-    let at = c .before .before .before .before in
+    let at = c .before .before .before .before .before in
     rw (
       not-false (at .before .before .before .args .sound) (at .before .before .if1 .left),
       lt-ltb _ laneCount (at .before .if2 .left),
       at .if3 .left,
-      ne-eqb _ 0 (c .before .before .before .if4 .left),
-      le-leb _ 1 (c .before .before .if5 .left),
-      c .before .if6 .left,
-      c .if7 .left,
+      ne-eqb _ 0 (c .before .before .before .before .if4 .left),
+      le-leb _ 1 (c .before .before .before .if5 .left),
+      le-leb _ 1 (c .before .before .if6 .left),
+      c .before .if7 .left,
+      ne-eqb _ 16 (c .if8 .taken),
+    )
+
+returns-9 : tie.Need-returns-9
+unfolding openCode laneCount
+returns-9 c =
+    let at = c .before .before .before .before .before in
+    rw (
+      not-false (at .before .before .before .args .sound) (at .before .before .if1 .left),
+      lt-ltb _ laneCount (at .before .if2 .left),
+      at .if3 .left,
+      ne-eqb _ 0 (c .before .before .before .before .if4 .left),
+      le-leb _ 1 (c .before .before .before .if5 .left),
+      le-leb _ 1 (c .before .before .if6 .left),
+      c .before .if7 .left,
+      c .if8 .left,
     )
 
 pub open-code-spec : {M : Type 1} → statement M
-open-code-spec = tie.close (tie.spec returns returns-2 returns-3 returns-4 (λ c. search needs) returns-5 returns-6 returns-7 returns-8)
+open-code-spec =
+    tie.close
+    (tie.spec returns returns-2 returns-3 returns-4 (λ c. search needs) returns-5 returns-6 returns-7 returns-8 returns-9)

@@ -11,7 +11,7 @@ returns : tie.Need-returns
 returns c =
     let start = c .before .before .before .before .before .before .before in
     let long : length (start .args .self .k) ≡ 80 = search needs in
-    by-its-own (start .args .self .k) (now (start .args .block)) long (c .before .before .encrypt-by-words .ensures)
+    by-its-own (start .args .order) (start .args .self .k) (now (start .args .block)) long (c .before .before .encrypt-by-words .ensures)
 
 pub encrypt-block-spec : {M : Type 1} → statement M
 encrypt-block-spec = tie.close (tie.spec (λ c. search needs) (λ c κs. search needs) (λ c. search needs) returns)
