@@ -40,3 +40,21 @@ BAD_STATE = 10
 
 abbrev pub NOT_THE_OWNER : ℕ
 NOT_THE_OWNER = 11
+
+abbrev pub BAD_BUNDLE_LENGTH : ℕ
+BAD_BUNDLE_LENGTH = 20
+
+abbrev pub BAD_TAG : ℕ
+BAD_TAG = 21
+
+abbrev pub MALFORMED : ℕ
+MALFORMED = 22
+
+abbrev pub MUST_KNOW : ℕ
+MUST_KNOW = 23
+
+abbrev pub BAD_LIST : ℕ
+BAD_LIST = 24
+
+abbrev pub SHORT_OUTPUT : ℕ
+SHORT_OUTPUT = 25

@@ -1,0 +1,4 @@
+-- The bundle's format, as request 2026-11 has it: a list of settings and its encoding; what a reader finds in any bytes; what a writer takes and gives.
+pub mod Format
+pub mod Reader
+pub mod Writer
