@@ -5,3 +5,4 @@ pub mod Editions
 pub mod Encoded
 pub mod Decoded
 pub mod Nodes
+pub mod Theorems
