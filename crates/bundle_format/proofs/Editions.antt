@@ -1,6 +1,7 @@
 -- Kinds: a later edition knows what an earlier one does; what a good setting is and what an entry that stands right is, part by part.
 use mathlib.Core.Path.{_≡_, refl, sym, ap, ap₂, _∙_}
 use mathlib.Core.Bool.{Bool, true, false, not, _&&_, _||_, false≢true}
+use mathlib.Core.Logic.{_≢_}
 use mathlib.Core.List.{List}
 use Prim.Native.Nat.{ℕ, zero, suc, _+_, _^_, _<_, _≤_}
 use native.Mathlib.Nat.{not-suc-le-zero, le-of-suc-le-suc}
@@ -34,6 +35,20 @@ known-later e f kind h k =
     let l : kind < kinds e = ltb-true kind (kinds e) k in
     let g : kinds e ≤ kinds f = kinds-grow e f h in
     lt-ltb kind (kinds f) (omega arith)
+
+-- editions and kinds past those that are named
+pub kinds-last : (e : ℕ) → e ≢ 0 → e ≢ 1 → kinds e ≡ 3
+unfolding kinds
+kinds-last zero z o = absurd (z refl)
+kinds-last (suc zero) z o = absurd (o refl)
+kinds-last (suc (suc e)) z o = refl
+
+pub no-value : (kind : ℕ) (body : List ℕ) → kind ≢ 0 → kind ≢ 1 → kind ≢ 2 → goodValue kind body ≡ false
+unfolding goodValue
+no-value zero body z o t = absurd (z refl)
+no-value (suc zero) body z o t = absurd (o refl)
+no-value (suc (suc zero)) body z o t = absurd (t refl)
+no-value (suc (suc (suc k))) body z o t = refl
 
 -- ---- truth values
 

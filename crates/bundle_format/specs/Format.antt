@@ -1,5 +1,5 @@
 -- A list of settings, and the bundle that it is in an edition and by a key, in the request's order. All numbers are big-endian.
-use mathlib.Core.Bool.{Bool, true, _&&_}
+use mathlib.Core.Bool.{Bool, true, false, _&&_}
 use mathlib.Core.List.{List, [], _∷_, _++_}
 use Prim.Native.Nat.{ℕ, zero, suc, _+_, _*_, _^_}
 use lib.Dec.{eqb, leb, ltb}
@@ -24,7 +24,8 @@ knows edition kind = ltb kind (kinds edition)
 unfoldable pub goodValue : (kind : ℕ) (body : List ℕ) → Bool
 goodValue zero body = eqb (length body) 1 && leb (getD body 0 0) 1
 goodValue (suc zero) body = eqb (length body) 8
-goodValue (suc (suc kind)) body = eqb kind 0 && leb (length body) 255
+goodValue (suc (suc zero)) body = leb (length body) 255
+goodValue (suc (suc (suc kind))) body = false
 
 -- ---- a list of settings
 

@@ -1,4 +1,8 @@
-// The settings bundle's format, for its reader and its writer: an entry of its table, and what calls answer. What they mean is in specs/.
+// The settings bundle's format, for its reader and its writer: an entry of its table, what calls answer, and the kinds of an edition. What they mean is in specs/.
+
+ghost use mathlib.Core.Path.{_≡_};
+ghost use denote.Ref.{now};
+ghost use Rattle.bundle_format.specs.Format.{kinds, knows, goodValue};
 
 // An entry of the table of contents, in the table's order.
 pub struct Row {
@@ -46,4 +50,43 @@ pub struct Asked {
 pub struct Written {
     pub code: u32,
     pub total: u32,
+}
+
+// How many kinds an edition has, from kind 0 on.
+pub fn kinds_of(edition: u32) -> u32
+    ensures { λ r. ⌜ r ≡ kinds edition ⌝ }
+{
+    if edition == 0 {
+        return 0;
+    }
+    if edition == 1 {
+        return 2;
+    }
+    3
+}
+
+// Whether an edition has a kind.
+pub fn knows_kind(edition: u32, kind: u32) -> bool
+    ensures { λ r. ⌜ r ≡ knows edition kind ⌝ }
+{
+    kind < kinds_of(edition)
+}
+
+// Whether a body is a value of a kind.
+pub fn good_value(kind: u32, body: &[u8]) -> bool
+    ensures { λ r. ⌜ r ≡ goodValue kind (now (body .entry)) ⌝ }
+{
+    if kind == 0 {
+        if body.len() != 1 {
+            return false;
+        }
+        return body[0] <= 1;
+    }
+    if kind == 1 {
+        return body.len() == 8;
+    }
+    if kind == 2 {
+        return body.len() <= 255;
+    }
+    false
 }
