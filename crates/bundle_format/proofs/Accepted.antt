@@ -1,9 +1,8 @@
 -- What a reader's 0 says, part by part, and that these parts are all.
-use mathlib.Core.Path.{_≡_, refl, sym, ap, ap₂, _∙_}
+use mathlib.Core.Path.{_≡_, refl, ap, _∙_}
 use mathlib.Core.Bool.{Bool, true, _&&_}
 use mathlib.Core.List.{List}
 use Prim.Native.Nat.{ℕ, _≤_}
-use native.Mathlib.Omega.{arith}
 use lib.Dec.{eqb, leb}
 use lib.ListN.{length, take, drop}
 use borrow.Author.Tests.{eq-eqb, eqb-true, le-leb, leb-true}
@@ -90,8 +89,7 @@ module _ (reader : ℕ) (key b : List ℕ) where
       let p2 = passed t2 BAD_BUNDLE_LENGTH (unless t3 BAD_TAG (unless t4 MALFORMED (unless t5 MUST_KNOW DONE))) refl (p1 .1) in
       let p3 = passed t3 BAD_TAG (unless t4 MALFORMED (unless t5 MUST_KNOW DONE)) refl (p2 .1) in
       let p4 = passed t4 MALFORMED (unless t5 MUST_KNOW DONE) refl (p3 .1) in
-      let p5 = passed t5 MUST_KNOW DONE refl (p4 .1) in
-      (
+      let p5 = passed t5 MUST_KNOW DONE refl (p4 .1) in (
         record {
           keyed = eqb-true (length key) 16 (p1 .0);
           size = size-only b (p2 .0);

@@ -2,20 +2,20 @@
 use mathlib.Core.Path.{_≡_, refl, sym, ap, ap₂, _∙_}
 use mathlib.Core.Bool.{Bool, true, _&&_}
 use mathlib.Core.List.{List, [], _∷_, _++_, append-assoc, map}
-use Prim.Native.Nat.{ℕ, zero, suc, _+_, _-_, _*_, _^_, _<_, _≤_}
+use Prim.Native.Nat.{ℕ, _+_, _*_, _≤_}
 use native.Mathlib.Omega.{arith}
 use borrow.Author.Tests.{eqb-true}
 use lib.ListN.{length, take, drop, length-append, length-drop, length-map, take-append-drop}
 use lib.Seq.{length-take-le, take-at, take-add, drop-drop}
 use Rattle.bits.proofs.Truth.{both, together}
 use Rattle.published.specs.Bytes.{toBytes, Bytes}
-use Rattle.bundle_format.specs.Format.{knows, goodValue, Setting, goodSetting, goodFrom, header, tableOf, firstBody, rowFor, placed, bodies, totalOf, untagged, tagOf, encode, goodList}
-use Rattle.bundle_format.specs.Reader.{numberAt, editionOf, countOf, statedOf, endOf, rowsFrom, rowsOf, bodyAt, inPlace, inKind, soundRows, settingOf, settingsOf}
+use Rattle.bundle_format.specs.Format.{knows, goodValue, goodSetting, goodFrom, header, tableOf, firstBody, rowFor, placed, bodies, totalOf, untagged, tagOf, encode, goodList}
+use Rattle.bundle_format.specs.Reader.{editionOf, countOf, endOf, rowsOf, bodyAt, inPlace, inKind, soundRows, settingOf, settingsOf}
 use Rattle.bundle_format.specs.declared.Row.{Row}
-use Rattle.bundle_format.proofs.Rows.{bytes-drop, number-back, Fits, AllFit, none, more, length-rowsFrom, rows-fit, rows-back}
-use Rattle.bundle_format.proofs.Accepted.{Sized, Formed, Whole}
-use Rattle.bundle_format.proofs.Editions.{Good, good-if, Stands, stands-only, kind-only}
-use Rattle.bundle_format.proofs.Encoded.{Listed, listed-if, length-untagged}
+use Rattle.bundle_format.proofs.Rows.{bytes-drop, number-back, Fits, AllFit, more, length-rowsFrom, rows-fit, rows-back}
+use Rattle.bundle_format.proofs.Accepted.{Whole}
+use Rattle.bundle_format.proofs.Editions.{good-if, Stands, stands-only, kind-only}
+use Rattle.bundle_format.proofs.Encoded.{listed-if, length-untagged}
 
 -- an entry that stands right, and those after it
 pub record Sound (reader : ℕ) (b : List ℕ) (low at : ℕ) (r : Row) (rs : List Row) : Type 0 where

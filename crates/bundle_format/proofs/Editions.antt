@@ -1,5 +1,5 @@
 -- Kinds: a later edition knows what an earlier one does; what a good setting is and what an entry that stands right is, part by part.
-use mathlib.Core.Path.{_≡_, refl, sym, ap, ap₂, _∙_}
+use mathlib.Core.Path.{_≡_, refl, sym, ap}
 use mathlib.Core.Bool.{Bool, true, false, not, _&&_, _||_, false≢true}
 use mathlib.Core.Logic.{_≢_}
 use mathlib.Core.List.{List}
@@ -7,7 +7,6 @@ use Prim.Native.Nat.{ℕ, zero, suc, _+_, _^_, _<_, _≤_}
 use native.Mathlib.Nat.{not-suc-le-zero, le-of-suc-le-suc}
 use native.Mathlib.Omega.{arith}
 use lib.Dec.{eqb, leb, ltb, lit≤}
-use lib.ListN.{length}
 use borrow.Author.Tests.{eq-eqb, eqb-true, le-leb, leb-true, lt-ltb, ltb-true, le-ltb}
 use Rattle.bits.proofs.Truth.{both, together}
 use Rattle.bundle_format.specs.Format.{kinds, knows, goodValue, Setting, goodSetting}

@@ -2,7 +2,7 @@
 use mathlib.Core.Path.{_≡_, refl, sym, ap, ap₂, _∙_}
 use mathlib.Core.Bool.{Bool, true, false, cond, not, _&&_, _||_}
 use mathlib.Core.List.{List, [], _∷_, _++_, append-assoc, map}
-use Prim.Native.Nat.{ℕ, zero, suc, _+_, _-_, _*_, _^_, _<_, _≤_}
+use Prim.Native.Nat.{ℕ, suc, _+_, _*_, _<_, _≤_}
 use native.Mathlib.Omega.{arith}
 use lib.Dec.{eqb, leb}
 use lib.ListN.{length, take, drop, length-append}
@@ -10,18 +10,16 @@ use lib.Seq.{take-append-seam, drop-append-seam, take-at, drop-at, drop-drop}
 use borrow.Author.Tests.{eq-eqb, le-leb, leb-true, ltb-true}
 use Rattle.answers.specs.Numbers.{MUST_KNOW, DONE}
 use Rattle.answers.specs.Order.{unless}
-use Rattle.bits.specs.Digit.{digit}
 use Rattle.bits.proofs.Truth.{both, together}
-use Rattle.published.specs.Bytes.{fromBytes, toBytes}
+use Rattle.published.specs.Bytes.{toBytes}
 use Rattle.published.proofs.Reading.{from-to}
 use Rattle.published.specs.Gift128.{encrypted}
 use Rattle.cmac.proofs.Chaining.{length-encrypted, length-cmac}
-use Rattle.bundle_format.specs.Format.{kinds, knows, goodValue, Setting, goodSetting, goodFrom, header, tableOf, firstBody, rowFor, placed, bodies, totalOf, untagged, tagOf, encode, goodList}
-use Rattle.bundle_format.specs.Reader.{numberAt, editionOf, countOf, statedOf, endOf, rowsFrom, rowsOf, bodyAt, inPlace, inKind, soundRows, allKnown, readCode, VALUE, UNKNOWN, ABSENT, bare, tell, tellIn, Answer, value, absent, unknown, meant, answerIn, held, settingOf, settingsOf}
+use Rattle.bundle_format.specs.Format.{kinds, knows, Setting, goodSetting, goodFrom, header, tableOf, firstBody, rowFor, placed, bodies, totalOf, untagged, tagOf, encode, goodList}
+use Rattle.bundle_format.specs.Reader.{numberAt, editionOf, countOf, statedOf, endOf, rowsFrom, rowsOf, bodyAt, inPlace, inKind, soundRows, allKnown, readCode, VALUE, UNKNOWN, bare, tell, tellIn, Answer, value, unknown, meant, answerIn, held, settingOf, settingsOf}
 use Rattle.bundle_format.specs.declared.Row.{Row}
-use Rattle.bundle_format.specs.declared.Told.{Told}
 use Rattle.bundle_format.proofs.Rows.{Fits, AllFit, none, more, length-table, rows-read}
-use Rattle.bundle_format.proofs.Accepted.{Sized, Formed, Whole, whole-code, accepted}
+use Rattle.bundle_format.proofs.Accepted.{Whole, whole-code}
 use Rattle.bundle_format.proofs.Editions.{kinds-most, known-later, or-right, Good, good-only, stands-if, in-kind}
 
 pub length-tag : (key m : List ℕ) → length (tagOf key m) ≡ 16
@@ -33,7 +31,7 @@ unfolding placed
 length-placed at [] = refl
 length-placed at (s ∷ ss) = ap suc (length-placed (at + length (s .body)) ss)
 
-length-header : (edition count total : ℕ) → length (header edition count total) ≡ 8
+pub length-header : (edition count total : ℕ) → length (header edition count total) ≡ 8
 unfolding header toBytes
 length-header edition count total = refl
 
@@ -221,14 +219,14 @@ module _ (key : List ℕ) (edition : ℕ) (ss : List Setting) (last : edition < 
           size = record { least = omega arith; most = omega arith; stated = stated-back ∙ sym n };
           tag = tagged;
           formed =
-            record {
-              edition = omega arith;
-              count = omega arith;
-              table = omega arith;
-              rows =
-                ap₂ (λ (k : ℕ) (rs : List Row). soundRows reader (encode key edition ss) 0 (firstBody k) rs) c rows-back
-                ∙ sound-placed reader (encode key edition ss) 0 (firstBody (length ss)) ss tag at-bodies (omega arith) (ap (λ (x : ℕ). goodFrom x 0 ss) e ∙ list .good);
-            };
+              record {
+                edition = omega arith;
+                count = omega arith;
+                table = omega arith;
+                rows =
+                    ap₂ (λ (k : ℕ) (rs : List Row). soundRows reader (encode key edition ss) 0 (firstBody k) rs) c rows-back
+                    ∙ sound-placed reader (encode key edition ss) 0 (firstBody (length ss)) ss tag at-bodies (omega arith) (ap (λ (x : ℕ). goodFrom x 0 ss) e ∙ list .good);
+              };
         }
 
     -- so its number is 0 or 23

@@ -1,13 +1,13 @@
 -- Two readers of the same bytes: what they tell of an id, and what they refuse.
 use mathlib.Core.Path.{_≡_, refl, sym, ap, ap₂, _∙_}
-use mathlib.Core.Bool.{Bool, true, false, cond, not, _&&_, _||_, false≢true}
+use mathlib.Core.Bool.{Bool, true, false, cond, not, _&&_, _||_}
 use mathlib.Core.Logic.{_⊎_, inl, inr}
 use mathlib.Core.List.{List, [], _∷_}
 use Prim.Native.Nat.{ℕ, _+_, _≤_}
 use native.Mathlib.Omega.{arith}
 use lib.Dec.{eqb, leb, ltb}
 use lib.ListN.{length, take, drop}
-use borrow.Author.Tests.{le-ltb, lt-ltb, ltb-true, ltb-false, not-false, not-true}
+use borrow.Author.Tests.{le-ltb, ltb-false}
 use Rattle.answers.specs.Numbers.{BAD_KEY_LENGTH, BAD_BUNDLE_LENGTH, BAD_TAG, MALFORMED, MUST_KNOW, DONE}
 use Rattle.answers.specs.Order.{unless}
 use Rattle.bits.proofs.Truth.{both, together}
@@ -16,8 +16,8 @@ use Rattle.bundle_format.specs.Format.{knows, goodValue, firstBody, tagO
 use Rattle.bundle_format.specs.Reader.{editionOf, countOf, endOf, rowsOf, bodyAt, rightSize, inPlace, inKind, soundRows, wellFormed, allKnown, readCode, VALUE, UNKNOWN, ABSENT, bare, tell, tellIn}
 use Rattle.bundle_format.specs.declared.Row.{Row}
 use Rattle.bundle_format.specs.declared.Told.{Told}
-use Rattle.bundle_format.proofs.Accepted.{Formed, formed-only, Whole, accepts, whole-code}
-use Rattle.bundle_format.proofs.Editions.{known-later, or-else, or-left, or-right, kind-only}
+use Rattle.bundle_format.proofs.Accepted.{formed-only, Whole, accepts, whole-code}
+use Rattle.bundle_format.proofs.Editions.{known-later, or-else, or-right, kind-only}
 use Rattle.bundle_format.proofs.Decoded.{Sound, sound-only}
 
 -- ---- what is told of an id in the same table
@@ -176,12 +176,12 @@ earlier-code r r′ key b h e = go (allKnown r (rowsOf b)) refl
           size = later .size;
           tag = later .tag;
           formed =
-            record {
-              edition = later .formed .edition;
-              count = later .formed .count;
-              table = later .formed .table;
-              rows = earlier-sound r r′ b 0 (firstBody (countOf b)) (rowsOf b) h (later .formed .rows);
-            };
+              record {
+                edition = later .formed .edition;
+                count = later .formed .count;
+                table = later .formed .table;
+                rows = earlier-sound r r′ b 0 (firstBody (countOf b)) (rowsOf b) h (later .formed .rows);
+              };
         }
 
     go : (t : Bool) → allKnown r (rowsOf b) ≡ t → (readCode r key b ≡ DONE) ⊎ (readCode r key b ≡ MUST_KNOW)

@@ -1,14 +1,13 @@
 -- Numbers, entries and tables, written and read: each way.
 use mathlib.Core.Path.{_≡_, refl, sym, ap, ap₂, _∙_}
-use mathlib.Core.List.{List, [], _∷_, _++_, append-assoc, map}
+use mathlib.Core.List.{List, [], _∷_, _++_, append-assoc}
 use Prim.Native.Nat.{ℕ, zero, suc, _+_, _*_, _^_, _<_, _≤_}
 use native.Mathlib.Omega.{arith}
 use lib.Dec.{lit<}
-use lib.ListN.{length, take, drop, getD, length-append, length-drop}
+use lib.ListN.{length, take, drop, length-append, length-drop}
 use lib.Seq.{length-take-le, take-add, getD-drop}
-use Rattle.bits.specs.Digit.{digit}
 use Rattle.published.specs.Bytes.{fromBytes, toBytes, Bytes}
-use Rattle.published.proofs.Reading.{length-toBytes, fromBytes-lt, from-to, to-from}
+use Rattle.published.proofs.Reading.{fromBytes-lt, from-to, to-from}
 use Rattle.bundle_format.specs.Format.{rowBytes, tableOf}
 use Rattle.bundle_format.specs.Reader.{numberAt, rowOf, rowsFrom}
 use Rattle.bundle_format.specs.declared.Row.{Row}

@@ -16,14 +16,14 @@ use Rattle.answers.proofs.Passed.{passed}
 use Rattle.bits.proofs.Truth.{both}
 use Rattle.published.specs.Bytes.{Bytes}
 use Rattle.bundle_format.specs.Format.{knows, Setting, firstBody, totalOf, tagOf, encode, goodList}
-use Rattle.bundle_format.specs.Reader.{editionOf, countOf, endOf, rowsFrom, rowsOf, allKnown, readCode, REFUSED, VALUE, ABSENT, bare, tellIn, tellAt, Asks, opened, answersFor, lookedUp, entryOf, Answer, value, unknown, meant, answerIn, held, settingsOf}
+use Rattle.bundle_format.specs.Reader.{editionOf, countOf, endOf, rowsFrom, rowsOf, readCode, REFUSED, VALUE, ABSENT, bare, tellIn, tellAt, Asks, opened, answersFor, lookedUp, entryOf, value, unknown, meant, answerIn, held, settingsOf}
 use Rattle.bundle_format.specs.Writer.{listOf, sizes, goodRows, writeCode, Writes}
 use Rattle.bundle_format.specs.Promises.{Encodes, Answers}
 use Rattle.bundle_format.specs.declared.Row.{Row}
 use Rattle.bundle_format.specs.declared.Told.{Told}
 use Rattle.bundle_format.specs.declared.Opened.{Opened}
 use Rattle.bundle_format.proofs.Accepted.{Whole, accepts}
-use Rattle.bundle_format.proofs.Encoded.{Listed, listed-only, length-encode, edition-back, rows-back, list-back, code-is, all-known, all-held, answers-are}
+use Rattle.bundle_format.proofs.Encoded.{listed-only, length-encode, edition-back, list-back, code-is, all-known, all-held, answers-are}
 use Rattle.bundle_format.proofs.Decoded.{is-encoding, is-list}
 use Rattle.bundle_format.proofs.Nodes.{one-value, one-absence, same-told, same-code, earlier-code}
 
@@ -38,9 +38,9 @@ one-encoding key edition ss last good =
       good = good;
       bytes = refl;
       only =
-        λ e ts h g same.
-        let o = only-of key e ts (encode key edition ss) h g same in
-        (o .0 ∙ edition-back key edition ss last good, o .1 ∙ list-back key edition ss last good);
+          λ e ts h g same.
+          let o = only-of key e ts (encode key edition ss) h g same in
+          (o .0 ∙ edition-back key edition ss last good, o .1 ∙ list-back key edition ss last good);
     }
 
 -- ---- it is read back exactly, by that edition's reader and by every later one
@@ -56,8 +56,8 @@ pub read-back : (key : List ℕ) (edition : ℕ) (ss : List Setting) → length 
 read-back key edition ss keyed first last good reader h =
     record {
       accepts =
-        code-is key edition ss last good keyed first reader
-        ∙ ap (λ (t : Bool). unless t MUST_KNOW DONE) (all-known reader edition 0 (firstBody (length ss)) ss h (listed-only edition ss good .good));
+          code-is key edition ss last good keyed first reader
+          ∙ ap (λ (t : Bool). unless t MUST_KNOW DONE) (all-known reader edition 0 (firstBody (length ss)) ss h (listed-only edition ss good .good));
       answers = λ id. answers-of key edition ss last good reader id ∙ all-held reader edition id 0 ss h (listed-only edition ss good .good);
     }
 
@@ -72,8 +72,7 @@ pub accepted-exactly : (reader : ℕ) (key b : List ℕ) → Bytes b → readCod
     → Encodes key (editionOf b) (settingsOf b) b × Answers reader key (settingsOf b) b
 accepted-exactly reader key b bytes e h =
     let w : Whole reader key b = accepts reader key b e .0 in
-    let good : goodList (editionOf b) (settingsOf b) ≡ true = is-list reader key b bytes w h in
-    (
+    let good : goodList (editionOf b) (settingsOf b) ≡ true = is-list reader key b bytes w h in (
       record { good = good; bytes = is-encoding reader key b bytes w; only = λ f ts l g same. only-of key f ts b l g same },
       record {
         accepts = e;
@@ -168,8 +167,7 @@ written edition key rows pool out total e w =
     let good = both (eqb (length rows % 4) 0 && eqb (sizes (length rows / 4) rows) (length pool)) (goodList edition ss) (p2 .0) .1 in
     let code : writeCode edition key rows pool (length out) ≡ 0 = sym (w .is) in
     let size : total ≡ totalOf ss = w .tells ∙ if-done (writeCode edition key rows pool (length out)) (totalOf ss) 0 code in
-    let left : e ≡ encode key edition ss ++ drop (totalOf ss) out = w .leaves ∙ if-done (writeCode edition key rows pool (length out)) (encode key edition ss ++ drop (totalOf ss) out) out code in
-    (
+    let left : e ≡ encode key edition ss ++ drop (totalOf ss) out = w .leaves ∙ if-done (writeCode edition key rows pool (length out)) (encode key edition ss ++ drop (totalOf ss) out) out code in (
       eqb-true (length key) 16 (p1 .0),
       good,
       ap (take total) left ∙ take-at (encode key edition ss) (drop (totalOf ss) out) total (length-encode key edition ss ∙ sym size),
@@ -184,9 +182,9 @@ never-different-values edition key rows pool out total e last w r r′ k k′ id
     let p = written edition key rows pool out total e w in
     let s = shown r k (take total e) id n t a (value-shown v) in
     let says : meant (take total e) t ≡ answerIn r id ss =
-      ap (meant (take total e)) (s .1)
-      ∙ ap (λ (b : List ℕ). meant b (tellIn r id (rowsOf b))) (p .2)
-      ∙ answers-of key edition ss last (p .1) r id
+    ap (meant (take total e)) (s .1)
+    ∙ ap (λ (b : List ℕ). meant b (tellIn r id (rowsOf b))) (p .2)
+    ∙ answers-of key edition ss last (p .1) r id
     in
     (two-values r r′ k k′ (take total e) id n n′ t t′ a a′ v v′, says ∙ said-held r id ss (λ u. value-said (take total e) t v (says ∙ u)))
 

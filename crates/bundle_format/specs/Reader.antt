@@ -1,7 +1,7 @@
 -- What a reader of an edition finds in any bytes: entries and bodies are cut out first, whoever reads; then they are judged, in the order of the refusals; then ids are answered.
 use mathlib.Core.Bool.{Bool, true, cond, not, _&&_, _||_}
 use mathlib.Core.List.{List, [], _∷_, map}
-use Prim.Native.Nat.{ℕ, zero, suc, _+_, _-_, _*_}
+use Prim.Native.Nat.{ℕ, zero, suc, _+_, _-_}
 use lib.Dec.{eqb, leb, ltb}
 use lib.ListN.{length, take, drop}
 use Rattle.answers.specs.Numbers.{DONE, BAD_KEY_LENGTH, BAD_BUNDLE_LENGTH, BAD_TAG, MALFORMED, MUST_KNOW}

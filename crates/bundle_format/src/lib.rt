@@ -15,8 +15,11 @@ pub struct Row {
 
 // How a setting stands: no answer, since the bundle is refused; not in the bundle; of a kind that the reader does not know; a value.
 pub const REFUSED: u32 = 0;
+
 pub const ABSENT: u32 = 1;
+
 pub const UNKNOWN: u32 = 2;
+
 pub const VALUE: u32 = 3;
 
 // What is told of a setting: how it stands, and of a value its kind, and where its body lies in the bundle. What does not apply is 0.

@@ -1,10 +1,10 @@
 // Whether a bundle is well formed, and whether a reader knows all that must be known.
-use bundle_format::Row;
-use bundle_format::good_value;
-use bundle_format::knows_kind;
 use crate::cut::number2;
 use crate::cut::number4;
 use crate::cut::row_at;
+use bundle_format::Row;
+use bundle_format::good_value;
+use bundle_format::knows_kind;
 ghost use mathlib.Core.Path.{_≡_};
 ghost use mathlib.Core.Bool.{not, _&&_, _||_};
 ghost use Prim.Native.Nat.{_+_, _*_, _≤_};
@@ -12,7 +12,7 @@ ghost use lib.Dec.{eqb, ltb};
 ghost use lib.ListN.{length, drop};
 ghost use denote.Ref.{now};
 ghost use Rattle.bundle_format.specs.Format.{knows, firstBody};
-ghost use Rattle.bundle_format.specs.Reader.{editionOf, countOf, endOf, rowsFrom, rowsOf, bodyAt, rightSize, inPlace, inKind, soundRows, wellFormed, allKnown};
+ghost use Rattle.bundle_format.specs.Reader.{editionOf, endOf, rowsFrom, bodyAt, rightSize, inPlace, inKind, soundRows, wellFormed, allKnown};
 
 // 20: from 24 bytes to 65,536, and as many as the header says.
 pub(crate) fn right_size(b: &[u8]) -> bool

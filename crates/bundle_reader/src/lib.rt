@@ -28,7 +28,7 @@ ghost use lib.ListN.{length, take, drop};
 ghost use denote.Ref.{now};
 ghost use Rattle.cmac.specs.Calls.{same};
 ghost use Rattle.bundle_format.specs.Format.{firstBody, tagOf};
-ghost use Rattle.bundle_format.specs.Reader.{countOf, endOf, rowsFrom, rowsOf, readCode, bare, tell, tellIn, tellAt, Asks, opened, answersFor, lookedUp, entryOf};
+ghost use Rattle.bundle_format.specs.Reader.{endOf, rowsFrom, readCode, bare, tell, tellIn, tellAt, Asks, opened, answersFor, lookedUp, entryOf};
 
 // ---- the number: 1, 20, 21, 22, 23
 

@@ -1,7 +1,7 @@
 -- `bundle_format::good_value`, kind by kind.
-use mathlib.Core.Path.{refl, sym}
+use mathlib.Core.Path.{sym}
 use borrow.Author.Needs.{needs}
-use borrow.Author.Tests.{eq-eqb, ne-eqb}
+use borrow.Author.Tests.{ne-eqb}
 use Rattle.bundle_format.specs.Format.{goodValue}
 use Rattle.bundle_format.proofs.Editions.{no-value}
 use Rattle.bundle_format.proofs.good_value.Statement.{statement}

@@ -1,5 +1,5 @@
 -- `bundle_format::kinds_of`, edition by edition.
-use mathlib.Core.Path.{refl, sym}
+use mathlib.Core.Path.{sym}
 use Rattle.bundle_format.specs.Format.{kinds}
 use Rattle.bundle_format.proofs.Editions.{kinds-last}
 use Rattle.bundle_format.proofs.kinds_of.Statement.{statement}

@@ -1,5 +1,4 @@
 -- `bundle_format::knows_kind`: below the number of kinds.
-use mathlib.Core.Path.{refl}
 use borrow.Author.Needs.{needs}
 use Rattle.bundle_format.proofs.knows_kind.Statement.{statement}
 use Rattle.bundle_format.proofs.knows_kind.Tie as tie

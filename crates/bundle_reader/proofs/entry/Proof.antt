@@ -1,5 +1,4 @@
 -- `bundle_reader::entry`: whether there is an answer, and then the entry.
-use mathlib.Core.Path.{_≡_, refl, sym, ap, ap₂, _∙_}
 use borrow.Author.Needs.{needs}
 use Rattle.bits.proofs.Truth.{told-false, told-true}
 use Rattle.bundle_format.specs.Reader.{entryOf}

@@ -1,5 +1,5 @@
 -- `bundle_reader::look_through`: its number first, and if that is 0 the count and the size.
-use mathlib.Core.Path.{_≡_, refl, sym, ap, ap₂, _∙_}
+use mathlib.Core.Path.{sym, _∙_}
 use native.Mathlib.Omega.{arith}
 use borrow.Author.Needs.{needs}
 use Rattle.bundle_reader.proofs.Steps.{room, opened-refused, opened-done}

@@ -1,5 +1,5 @@
 -- `bundle_reader::right_tag`, as the check of a tag tells it.
-use mathlib.Core.Path.{_≡_, refl, sym, ap, ap₂, _∙_}
+use mathlib.Core.Path.{refl}
 use borrow.Author.Needs.{needs}
 use denote.Ref.{now}
 use Rattle.bundle_reader.proofs.Steps.{tag-told}

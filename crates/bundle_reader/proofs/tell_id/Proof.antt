@@ -1,9 +1,9 @@
 -- `bundle_reader::tell_id`: none of the entries before place i has the id.
-use mathlib.Core.Path.{_≡_, refl, sym, ap, ap₂, _∙_}
+use mathlib.Core.Path.{refl, sym, _∙_}
 use mathlib.Core.List.{List}
-use Prim.Native.Nat.{ℕ, _+_, _-_, _*_, _≤_}
+use Prim.Native.Nat.{ℕ, _-_, _≤_}
 use native.Mathlib.Omega.{arith}
-use lib.ListN.{length, drop}
+use lib.ListN.{drop}
 use denote.Ref.{now}
 use Rattle.bundle_format.specs.Reader.{rowsFrom, tell, tellIn}
 use Rattle.bundle_reader.proofs.Cutting.{Left, left-start, left-end, left-stop, left-more}

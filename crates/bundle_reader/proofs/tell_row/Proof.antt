@@ -1,5 +1,4 @@
 -- `bundle_reader::tell_row`: a kind that the reader knows, or not.
-use mathlib.Core.Path.{_≡_, refl, sym, ap, ap₂, _∙_}
 use borrow.Author.Needs.{needs}
 use Rattle.bits.proofs.Truth.{told-false, told-true}
 use Rattle.bundle_format.specs.Reader.{tell}

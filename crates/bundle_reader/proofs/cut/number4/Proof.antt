@@ -1,6 +1,6 @@
 -- `bundle_reader::cut::number4`: two bytes, and two more.
-use mathlib.Core.Path.{_≡_, refl, sym, ap, ap₂, _∙_}
-use Prim.Native.Nat.{ℕ, _+_, _-_, _*_, _≤_}
+use mathlib.Core.Path.{sym, ap₂, _∙_}
+use Prim.Native.Nat.{ℕ, _+_, _*_}
 use borrow.Author.Needs.{needs}
 use Rattle.bundle_reader.proofs.Cutting.{number-four}
 use Rattle.bundle_reader.proofs.cut.number4.Statement.{statement}

@@ -1,5 +1,4 @@
 -- `bundle_reader::cut::row_at`: its five numbers.
-use mathlib.Core.Path.{_≡_, refl, sym, ap, ap₂, _∙_}
 use borrow.Author.Needs.{needs}
 use Rattle.bundle_reader.proofs.Cutting.{row-there}
 use Rattle.bundle_reader.proofs.cut.row_at.Statement.{statement}

@@ -1,10 +1,10 @@
 -- `bundle_reader::judge::all_known`: of the entries before place i none is missed.
-use mathlib.Core.Path.{_≡_, refl, sym, ap, ap₂, _∙_}
+use mathlib.Core.Path.{refl, sym}
 use mathlib.Core.Bool.{false}
 use mathlib.Core.List.{List}
-use Prim.Native.Nat.{ℕ, _+_, _-_, _*_, _≤_}
+use Prim.Native.Nat.{ℕ, _-_, _≤_}
 use native.Mathlib.Omega.{arith}
-use lib.ListN.{length, drop}
+use lib.ListN.{drop}
 use denote.Ref.{now}
 use Rattle.bits.proofs.Truth.{told-false, told-true}
 use Rattle.bundle_format.specs.Reader.{rowsFrom, allKnown}

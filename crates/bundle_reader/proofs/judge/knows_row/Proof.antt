@@ -1,6 +1,6 @@
 -- `bundle_reader::judge::knows_row`: an entry that need not be known, or whose kind is.
 use borrow.Author.Needs.{needs}
-use borrow.Author.Tests.{eq-eqb, ne-eqb}
+use borrow.Author.Tests.{ne-eqb}
 use Rattle.bundle_reader.proofs.judge.knows_row.Statement.{statement}
 use Rattle.bundle_reader.proofs.judge.knows_row.Tie as tie
 

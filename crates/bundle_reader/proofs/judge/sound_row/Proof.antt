@@ -1,13 +1,13 @@
 -- `bundle_reader::judge::sound_row`: in its place, and then right in kind.
-use mathlib.Core.Path.{_≡_, refl, sym, ap, ap₂, _∙_}
-use Prim.Native.Nat.{ℕ, _+_, _-_, _*_, _≤_}
+use mathlib.Core.Path.{_≡_, ap, _∙_}
+use Prim.Native.Nat.{ℕ, _+_, _-_}
 use native.Mathlib.Omega.{arith}
-use lib.ListN.{length, take, drop}
+use lib.ListN.{take, drop}
 use borrow.Author.Needs.{needs}
 use denote.Ref.{now}
 use Rattle.bits.proofs.Truth.{told-false, told-true}
-use Rattle.bundle_format.proofs.Editions.{Stands, stands-only}
-use Rattle.bundle_format.specs.Reader.{endOf, inKind}
+use Rattle.bundle_format.proofs.Editions.{stands-only}
+use Rattle.bundle_format.specs.Reader.{inKind}
 use Rattle.bundle_reader.proofs.judge.sound_row.Statement.{statement}
 use Rattle.bundle_reader.proofs.judge.sound_row.Tie as tie
 

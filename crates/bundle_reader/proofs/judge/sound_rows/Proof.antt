@@ -1,14 +1,14 @@
 -- `bundle_reader::judge::sound_rows`: the entries before place i stand right; the next has id `low` at least, and its body is at `at`.
-use mathlib.Core.Path.{_≡_, refl, sym, ap, ap₂, _∙_}
-use mathlib.Core.Bool.{Bool, true, false, _&&_}
+use mathlib.Core.Path.{refl, sym, ap, _∙_}
+use mathlib.Core.Bool.{false, _&&_}
 use mathlib.Core.List.{List}
-use Prim.Native.Nat.{ℕ, _+_, _-_, _*_, _≤_}
+use Prim.Native.Nat.{ℕ, _+_, _-_, _≤_}
 use native.Mathlib.Omega.{arith}
-use lib.ListN.{length, drop}
+use lib.ListN.{drop}
 use denote.Ref.{now}
 use Rattle.bits.proofs.Truth.{both}
 use Rattle.bits.proofs.Truth.{told-false, told-true}
-use Rattle.bundle_format.proofs.Editions.{Stands, stands-only}
+use Rattle.bundle_format.proofs.Editions.{stands-only}
 use Rattle.bundle_format.specs.Format.{firstBody}
 use Rattle.bundle_format.specs.Reader.{endOf, rowsFrom, bodyAt, inPlace, inKind, soundRows}
 use Rattle.bundle_reader.proofs.Cutting.{Left, left-start, left-end, left-stop, left-more}

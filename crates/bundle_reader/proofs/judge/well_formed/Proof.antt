@@ -1,8 +1,7 @@
 -- `bundle_reader::judge::well_formed`, test by test.
-use mathlib.Core.Path.{_≡_, refl, sym, ap, ap₂, _∙_}
+use mathlib.Core.Path.{refl}
 use borrow.Author.Needs.{needs}
 use borrow.Author.Tests.{le-leb, lt-leb}
-use denote.Ref.{now}
 use Rattle.bundle_reader.proofs.Steps.{formed-by}
 use Rattle.bundle_reader.proofs.judge.well_formed.Statement.{statement}
 use Rattle.bundle_reader.proofs.judge.well_formed.Tie as tie
