@@ -28,7 +28,7 @@ ghost use lib.ListN.{length, take, drop};
 ghost use denote.Ref.{now};
 ghost use Rattle.cmac.specs.Calls.{same};
 ghost use Rattle.bundle_format.specs.Format.{firstBody, tagOf};
-ghost use Rattle.bundle_format.specs.Reader.{endOf, rowsFrom, readCode, bare, tell, tellIn, tellAt, Asks, opened, answersFor, lookedUp, entryOf};
+ghost use Rattle.bundle_format.specs.Reader.{ABSENT, endOf, rowsFrom, readCode, bare, tell, tellIn, tellAt, Asks, opened, answersFor, lookedUp, entryOf};
 
 // ---- the number: 1, 20, 21, 22, 23
 
@@ -79,6 +79,12 @@ fn only(state: u32, id: u32) -> Told
     }
 }
 
+fn absent() -> Told
+    ensures { λ r. ⌜ r ≡ bare ABSENT 0 ⌝ }
+{
+    only(ABSENT, 0)
+}
+
 fn tell_row(reader: u32, row: Row) -> Told
     ensures { λ r. ⌜ r ≡ tell reader row ⌝ }
 {
@@ -106,7 +112,7 @@ fn tell_id(reader: u32, b: &[u8], count: usize, id: u32) -> Told
         }
         i += 1;
     }
-    only(ABSENT, 0)
+    absent()
 }
 
 fn tell_entry(reader: u32, b: &[u8], count: usize, i: u32) -> Told
@@ -115,7 +121,7 @@ fn tell_entry(reader: u32, b: &[u8], count: usize, i: u32) -> Told
 {
     let place = i as usize;
     if count <= place {
-        return only(ABSENT, 0);
+        return absent();
     }
     tell_row(reader, row_at(b, 8 + 12 * place))
 }

@@ -4,6 +4,7 @@
 // after it are counted, or `# TEXT`, a remark, or it tells a record of the bench (benches.rt). The last line of the output says how many
 // cases were equal and how many different. The cases that the gate replays stand in the file stdin beside src/.
 mod benches;
+mod bundles;
 mod cipher;
 mod macs;
 mod text;
@@ -77,7 +78,8 @@ fn call_of(line: &[u8]) -> u32 {
           nibble_ror_1=1a nibble_ror_2=1b nibble_ror_3=1c round_constant=1d \
           sbox=21 inv_sbox=22 swapmove=23 packing=24 quintuple_round=25 inv_quintuple_round=26 first_round=27 \
           open_lane=31 turn=32 close=33 take=34 fresh=35 put=41 record=42 #=51 ##=52 \
-          cmac=61 cmac_check=62 cmac_start=63 cmac_piece=64 cmac_tag=65",
+          cmac=61 cmac_check=62 cmac_start=63 cmac_piece=64 cmac_tag=65 \
+          bundle_ask=91 bundle_open=92 bundle_look=93 bundle_entry=94 bundle_write=95",
         &line[0..e],
     )
 }
@@ -115,6 +117,7 @@ fn judged(r: Run, line: &[u8]) -> Run {
         0x51 => r,
         0x52 => headed(r, line),
         0x61..=0x65 => counted(r, macs::right(call, line), line),
+        0x91..=0x95 => counted(r, bundles::right(call, line), line),
         _ => counted(r, cipher::right(call, line), line),
     }
 }

@@ -15,7 +15,7 @@ use Rattle.bundle_reader.proofs.tell_entry.Tie as tie
 returns : tie.Need-returns
 returns c =
     let a = c .before .before .before .args in
-    c .only .ensures ∙ sym (entry-none (a .reader) (a .count) (a .i) (drop 8 (now (a .b))) (c .before .if1 .taken))
+    c .absent .ensures ∙ sym (entry-none (a .reader) (a .count) (a .i) (drop 8 (now (a .b))) (c .before .if1 .taken))
 
 returns-2 : tie.Need-returns-2
 returns-2 c =

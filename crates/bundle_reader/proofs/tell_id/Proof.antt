@@ -46,7 +46,7 @@ returns-2 c =
     let a = c .before .before .before .before .args in
     let b : List ℕ = now (a .b) in
     let l = c .before .before .loop in
-    c .only .ensures ∙ sym (left-end b (a .count) (tellIn (a .reader) (a .id) (rowsFrom (a .count) (drop 8 b))) (tellIn (a .reader) (a .id)) (l .i) (l .inv .1) (l .inv .0) (omega arith))
+    c .absent .ensures ∙ sym (left-end b (a .count) (tellIn (a .reader) (a .id) (rowsFrom (a .count) (drop 8 b))) (tellIn (a .reader) (a .id)) (l .i) (l .inv .1) (l .inv .0) (omega arith))
 
 pub tell-id-spec : {M : Type 1} → statement M
 tell-id-spec =
