@@ -5,6 +5,7 @@
 #![warn(missing_docs)]
 
 mod bench;
+mod bundle;
 pub mod calls;
 mod mac;
 mod refusal;
@@ -12,6 +13,7 @@ mod refusal;
 use core::fmt;
 
 pub use bench::{Bench, Direction, Lane, Owner, State};
+pub use bundle::{Answer, Bundle, Edition, Iter, Row, Value, Writer};
 pub use mac::{Mac, MacState};
 pub use refusal::Refusal;
 
