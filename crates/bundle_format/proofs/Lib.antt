@@ -1,4 +1,5 @@
--- Laws of the format: numbers and entries written and read; what a reader's 0 says; a list encoded and read back; accepted bytes are an encoding; two readers; tags.
+-- Laws of the format: numbers and entries written and read; what a reader's 0 says; kinds and editions; a list encoded and read; accepted bytes; two readers; then the
+-- request's theorems, worked facts, and that no call has a second outcome.
 pub mod Rows
 pub mod Accepted
 pub mod Editions
@@ -6,3 +7,5 @@ pub mod Encoded
 pub mod Decoded
 pub mod Nodes
 pub mod Theorems
+pub mod Facts
+pub mod OneOutcome
