@@ -3,7 +3,7 @@
  * Every function is proved to answer as said here for all lengths, numbers, bytes and records. There is nothing to set up
  * or tear down, and nothing is kept between calls: all memory is the host's, and is lent for the length of one call. Calls
  * on different memory may run at the same time. The library takes no heap and some one KiB of stack (2.3 KiB for CMAC,
- * 18 KiB where the plain engine is called), and calls nothing but memcpy and memset.
+ * 2.5 KiB for bundles, 18 KiB where the plain engine is called), and calls nothing but memcpy and memset.
  *
  * A call answers 0 (GIFT_DONE) or the number of a refusal. Refusals are tried in the order given with each function, and
  * the first that applies is the one given. After a refusal everything lent is as it was before the call.

@@ -1,13 +1,13 @@
 -- Worked facts of the definitions, computed: the bundle of docs/BUNDLE.md but for its tag, and what each edition's reader makes of it.
 use mathlib.Core.Path.{_≡_, refl}
-use mathlib.Core.Bool.{true, false, not, _&&_, _||_}
+use mathlib.Core.Bool.{true, false}
 use mathlib.Core.List.{List, [], _∷_, _++_}
 use Prim.Native.Nat.{ℕ}
 use lib.ListN.{replicate}
 use Rattle.bits.specs.Digit.{digit}
 use Rattle.published.specs.Bytes.{fromBytes, toBytes}
 use Rattle.bundle_format.specs.Format.{kinds, goodValue, Setting, goodSetting, goodFrom, header, rowBytes, tableOf, placed, bodies, untagged, goodList}
-use Rattle.bundle_format.specs.Reader.{numberAt, rowOf, rowsFrom, rowsOf, inPlace, inKind, soundRows, wellFormed, allKnown, tell, tellIn, Answer, value, absent, unknown, meant}
+use Rattle.bundle_format.specs.Reader.{numberAt, rowOf, rowsFrom, rowsOf, inPlace, inKind, soundRows, wellFormed, allKnown, tell, tellIn, value, absent, unknown, meant}
 
 -- a flag that is on, the number 1,000, and the text "hello", which need not be known
 abbrev settings : List Setting

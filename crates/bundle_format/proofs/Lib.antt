@@ -6,6 +6,7 @@ pub mod Editions
 pub mod Encoded
 pub mod Decoded
 pub mod Nodes
+pub mod Entries
 pub mod Theorems
 pub mod Facts
 pub mod OneOutcome
