@@ -336,7 +336,8 @@ def cases():
             for i in range(len(settings) + 2):
                 yield case_entry(seen, b, i)
             yield case_look(seen, b + b"\0", 1)
-            yield case_look((21, reader, seen[2], seen[3]), b, m.ids(settings)[0])
+            for code in 1, 20, 21, 22, 23:
+                yield case_look((code, reader, len(settings), len(b)), b, m.ids(settings)[0])
             yield case_look((0, reader, 2 ** 32 - 1, len(b)), b, 1)
             yield case_entry((0, reader, len(b) // 12, len(b)), b, 0)
             yield case_entry(seen, b, 2 ** 32 - 1)

@@ -135,13 +135,13 @@ pub(crate) fn all_known(reader: u32, b: &[u8], count: usize) -> bool
     requires { ⌜ firstBody count ≤ length (now b) ⌝ }
     ensures { λ r. ⌜ r ≡ allKnown reader (rowsFrom count (drop 8 (now (b .entry)))) ⌝ }
 {
-    let mut i: usize = 0;
-    while i < count {
-        let row = row_at(b, 8 + 12 * i);
+    let mut k: usize = 0;
+    while k < count {
+        let row = row_at(b, 8 + 12 * k);
         if !knows_row(reader, row) {
             return false;
         }
-        i += 1;
+        k += 1;
     }
     true
 }
