@@ -201,6 +201,47 @@ def every_byte(b, key):
                 yield changed[:-16] + tag(key, changed[:-16])
 
 
+def one_thing_wrong(m, key):
+    """Bundles with good tags that break one sentence of the request each, and some that break two, so that the order shows."""
+    flag, number, text, nothing = (1, 0, 0, b"\1"), (4, 1, 1, m.r(8)), (6, 2, 1, b"hello"), (9, 2, 0, b"")
+
+    def again(b, *changes):
+        """Bytes put at places, the total made right, and the tag."""
+        x = bytearray(b[:-16])
+        for at, new in changes:
+            x[at:at + len(new)] = new
+        struct.pack_into(">I", x, 4, len(x) + 16)
+        return bytes(x) + tag(key, bytes(x))
+
+    lists = [flag, flag], [number, flag], [flag, number, (4, 0, 0, b"\0")], [(1, 0, 2, b"\1")], [(1, 0, 255, b"\0"), number], [(1, 0, 0, b"\2")], [(1, 0, 0, b"")], \
+        [(1, 0, 1, b"\1\0")], [(1, 1, 0, m.r(7))], [(1, 1, 1, m.r(9))], [(1, 2, 0, m.r(256))], [(1, 3, 0, b"x")], [(1, 3, 1, b"x")], [flag, number, text, nothing], [text], [nothing]
+    for settings in lists:
+        for edition in 0, 1, 2, 3, 65535:
+            yield bundle(key, edition, settings)
+    b = bundle(key, 2, [flag, number, text, nothing])
+    for i in range(4):
+        for off in 1, -1, 256:
+            at = 8 + 12 * i + 4
+            yield again(b, (at, (int.from_bytes(b[at:at + 4], "big") + off).to_bytes(4, "big")))
+        for off in 1, -1:
+            at = 8 + 12 * i + 8
+            yield again(b, (at, ((int.from_bytes(b[at:at + 2], "big") + off) % 65536).to_bytes(2, "big")))
+    for extra in b"\0", b"\0\0":
+        yield again(b[:-16] + extra + bytes(16))
+    yield again(b[:-17] + bytes(16))
+    for n in 0, 3, 5, 257, 65535:
+        yield again(b, (2, n.to_bytes(2, "big")))
+    # 22 with 23, 21 with 22, 20 with 21
+    strange = bundle(key, 3, [(1, 9, 1, b"?"), (5, 0, 0, b"\2")])
+    yield strange
+    yield again(strange[:-16] + b"\0" + bytes(16))
+    for c in b, strange:
+        yield c[:-1] + bytes([c[-1] ^ 1])
+        yield again(c, (0, b"\0\0"))[:-1] + b"\0"
+        yield c[:-1]
+        yield c + b"\0"
+
+
 # ---- cases for replay
 
 def text(b):
@@ -315,6 +356,11 @@ def cases():
     b = bundle(key, 2, [(1, 0, 0, b"\1"), (4, 2, 1, b"hi"), (6, 2, 0, b"")])
     for changed in every_byte(b, key):
         yield case_ask(c.choice([1, 2]), key, changed, c.choice([1, 4, 6]))
+    yield "## Bundles that break one sentence of the request, or two"
+    for wrong in one_thing_wrong(m, key):
+        if len(wrong) <= 480:
+            for reader in 1, 2:
+                yield case_ask(reader, key, wrong, c.choice([1, 4, 6, 9]))
     yield "## Refusals in their order"
     for n in 0, 15, 16, 17:
         for size in 0, 1, 23, 24, len(b) - 1, len(b), len(b) + 1:
@@ -479,6 +525,10 @@ def held_to_model(file):
             settings = m.settings(edition)
             for rows, pool in wrong_rows(m, edition, settings):
                 wrote("wrong lists", edition, r(c.choice([16, 16, 15])), rows, pool, r(400))
+    for _ in range(5):
+        key = r(16)
+        for wrong in one_thing_wrong(m, key):
+            asked("one thing wrong", key, wrong, [1, 4, 6, 9])
     # sizes: 0, 255, 256 and 257 settings; edition 1's largest, 5,144 bytes; 65,536 bytes and one more
     key = r(16)
     for n in 0, 1, 255, 256, 257:
