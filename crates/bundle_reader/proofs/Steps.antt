@@ -23,6 +23,11 @@ use Rattle.bundle_format.specs.declared.Row.{Row}
 use Rattle.bundle_format.specs.declared.Opened.{Opened}
 use Rattle.bundle_format.proofs.Accepted.{Whole, accepts}
 
+-- what a test of an entry told, by an edition that is the bundle's
+pub sound-told : (reader : ℕ) (b : List ℕ) (low at : ℕ) (r : Row) (edition : ℕ) (told : Bool) → edition ≡ editionOf b → told ≡ (inPlace (endOf b) low at r && inKind reader edition (r .kind) (bodyAt b r))
+    → told ≡ (inPlace (endOf b) low at r && inKind reader (editionOf b) (r .kind) (bodyAt b r))
+sound-told reader b low at r edition told own e = e ∙ ap (λ (x : ℕ). inPlace (endOf b) low at r && inKind reader x (r .kind) (bodyAt b r)) own
+
 module _ (reader : ℕ) (b : List ℕ) (low at : ℕ) (r : Row) (rs : List Row) where
   pub sound-more : inPlace (endOf b) low at r && inKind reader (editionOf b) (r .kind) (bodyAt b r) ≡ true → soundRows reader b low at (r ∷ rs) ≡ soundRows reader b (r .id + 1) (at + r .len) rs
   unfolding soundRows

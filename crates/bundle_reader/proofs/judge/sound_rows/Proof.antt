@@ -1,6 +1,6 @@
 -- `bundle_reader::judge::sound_rows`: the entries before place i stand right; the next has id `low` at least, and its body is at `at`.
-use mathlib.Core.Path.{refl, sym, ap, _∙_}
-use mathlib.Core.Bool.{false, _&&_}
+use mathlib.Core.Path.{refl, sym}
+use mathlib.Core.Bool.{false}
 use mathlib.Core.List.{List}
 use Prim.Native.Nat.{ℕ, _+_, _-_, _≤_}
 use native.Mathlib.Omega.{arith}
@@ -10,9 +10,9 @@ use Rattle.bits.proofs.Truth.{both}
 use Rattle.bits.proofs.Truth.{told-false, told-true}
 use Rattle.bundle_format.proofs.Editions.{stands-only}
 use Rattle.bundle_format.specs.Format.{firstBody}
-use Rattle.bundle_format.specs.Reader.{endOf, rowsFrom, bodyAt, inPlace, inKind, soundRows}
+use Rattle.bundle_format.specs.Reader.{endOf, rowsFrom, inPlace, soundRows}
 use Rattle.bundle_reader.proofs.Cutting.{Left, left-start, left-end, left-stop, left-more}
-use Rattle.bundle_reader.proofs.Steps.{sound-more, sound-not}
+use Rattle.bundle_reader.proofs.Steps.{sound-told, sound-more, sound-not}
 use Rattle.bundle_reader.proofs.judge.sound_rows.Statement.{statement}
 use Rattle.bundle_reader.proofs.judge.sound_rows.Tie as tie
 
@@ -34,7 +34,7 @@ returns c =
     let b : List ℕ = now (a .b) in
     let l = c .before .before .before .before .loop in
     let r = c .before .before .row-at in
-    let no = told-false (c .before .sound-row .ensures ∙ ap (λ (e : ℕ). inPlace (endOf b) (l .low) (l .at) (r .result) && inKind (a .reader) e (r .result .kind) (bodyAt b (r .result))) (c .before .before .before .before .before .before .pre .1 .1)) (c .if1 .taken) in
+    let no = told-false (sound-told (a .reader) b (l .low) (l .at) (r .result) (a .edition) (c .before .sound-row .result) (c .before .before .before .before .before .before .pre .1 .1) (c .before .sound-row .ensures)) (c .if1 .taken) in
     sym (left-stop b (a .count) (soundRows (a .reader) b 0 (firstBody (a .count)) (rowsFrom (a .count) (drop 8 b))) (soundRows (a .reader) b (l .low) (l .at)) (l .i) (l .inv .2) (omega arith) (r .result) (r .ensures) false (λ rs. sound-not (a .reader) b (l .low) (l .at) (r .result) rs no))
 
 add-at-2 : tie.Need-add-at-2 Inv-loop μ-loop
@@ -43,7 +43,7 @@ add-at-2 c =
     let b : List ℕ = now (a .b) in
     let l = c .before .before .before .before .before .before .loop in
     let r = c .before .before .before .before .row-at in
-    let yes = told-true (c .before .before .before .sound-row .ensures ∙ ap (λ (e : ℕ). inPlace (endOf b) (l .low) (l .at) (r .result) && inKind (a .reader) e (r .result .kind) (bodyAt b (r .result))) (c .before .before .before .before .before .before .before .before .pre .1 .1)) (c .before .before .if1 .left) in
+    let yes = told-true (sound-told (a .reader) b (l .low) (l .at) (r .result) (a .edition) (c .before .before .before .sound-row .result) (c .before .before .before .before .before .before .before .before .pre .1 .1) (c .before .before .before .sound-row .ensures)) (c .before .before .if1 .left) in
     let s = stands-only (endOf b) (l .low) (l .at) (r .result) (both (inPlace (endOf b) (l .low) (l .at) (r .result)) _ yes .0) in
     omega (arith, s .ends)
 
@@ -53,7 +53,7 @@ loop-again c =
     let b : List ℕ = now (a .b) in
     let l = c .before .before .before .before .before .before .loop in
     let r = c .before .before .before .before .row-at in
-    let yes = told-true (c .before .before .before .sound-row .ensures ∙ ap (λ (e : ℕ). inPlace (endOf b) (l .low) (l .at) (r .result) && inKind (a .reader) e (r .result .kind) (bodyAt b (r .result))) (c .before .before .before .before .before .before .before .before .pre .1 .1)) (c .before .before .if1 .left) in
+    let yes = told-true (sound-told (a .reader) b (l .low) (l .at) (r .result) (a .edition) (c .before .before .before .sound-row .result) (c .before .before .before .before .before .before .before .before .pre .1 .1) (c .before .before .before .sound-row .ensures)) (c .before .before .if1 .left) in
     let s = stands-only (endOf b) (l .low) (l .at) (r .result) (both (inPlace (endOf b) (l .low) (l .at) (r .result)) _ yes .0) in
     let next = left-more b (a .count) (soundRows (a .reader) b 0 (firstBody (a .count)) (rowsFrom (a .count) (drop 8 b))) (soundRows (a .reader) b (l .low) (l .at)) (l .i) (l .inv .2) (omega arith) (r .result) (r .ensures) (soundRows (a .reader) b (r .result .id + 1) (l .at + r .result .len)) (λ rs. sound-more (a .reader) b (l .low) (l .at) (r .result) rs yes) in
     (omega arith, s .ends, next)
