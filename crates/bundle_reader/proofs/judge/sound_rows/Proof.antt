@@ -6,8 +6,7 @@ use Prim.Native.Nat.{ℕ, _+_, _-_, _≤_}
 use native.Mathlib.Omega.{arith}
 use lib.ListN.{drop}
 use denote.Ref.{now}
-use Rattle.bits.proofs.Truth.{both}
-use Rattle.bits.proofs.Truth.{told-false, told-true}
+use Rattle.bits.proofs.Truth.{both, told-false, told-true}
 use Rattle.bundle_format.proofs.Editions.{stands-only}
 use Rattle.bundle_format.specs.Format.{firstBody}
 use Rattle.bundle_format.specs.Reader.{endOf, rowsFrom, inPlace, soundRows}
