@@ -1,5 +1,5 @@
 -- A call is refused and changes nothing, or is done: then each line of its order was passed, and it leaves what it is said to leave.
-use mathlib.Core.Path.{_≡_, refl}
+use mathlib.Core.Path.{_≡_}
 use mathlib.Core.Bool.{true}
 use mathlib.Core.List.{List, []}
 use mathlib.Core.Logic.{_≢_}

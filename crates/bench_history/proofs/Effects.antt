@@ -1,7 +1,7 @@
 -- What calls do to a bench, whoever made it: turns made and told, refusals, and what stays.
 use mathlib.Core.Path.{_≡_, refl, sym, ap, _∙_}
 use mathlib.Core.Bool.{true, false, cond, false≢true}
-use mathlib.Core.List.{List, [], _∷_}
+use mathlib.Core.List.{[], _∷_}
 use mathlib.Core.Logic.{_≢_}
 use Prim.Native.Nat.{ℕ, zero, suc, _+_, min}
 use native.Mathlib.Decide.{ℕ-discrete}
@@ -19,7 +19,7 @@ use Rattle.bench.specs.Calls.{soundBench, put, answered, turnOf, takenBytes}
 use Rattle.bench.proofs.Soundness.{Sound, is-sound, says-sound}
 use Rattle.bench.proofs.Seeking.{phase-runs, runs-any}
 use Rattle.bench.proofs.Made.{turned-is, turned-none, sound-turned, by-turns, made-is, counts-more}
-use Rattle.bench_history.specs.History.{Call, opening, turning, taking, closing, answerTo, codeOf, leaves, tells, asks, serves, run, log, lastOf, names}
+use Rattle.bench_history.specs.History.{Call, opening, turning, taking, closing, answerTo, codeOf, leaves, asks, serves, run, log, lastOf, names}
 use Rattle.bench_history.specs.Promises.{Turning, Refused, Frame}
 use Rattle.bench_history.proofs.Accepted.{refused-leaves, refused-tells, refused-serves, TurnDone, turns, opens, takes, closings}
 use Rattle.bench_history.proofs.Touched.{sound-leaves, put-there, put-last}

@@ -1,7 +1,7 @@
 -- No key outlives its lane: a lane that was taken from or closed is all zero, and so is every idle lane of a sound bench and of every history.
 use mathlib.Core.Path.{_≡_, refl, sym, ap, _∙_}
-use mathlib.Core.Bool.{true, _&&_, not, false≢true}
-use mathlib.Core.List.{List, [], _∷_, _++_}
+use mathlib.Core.Bool.{true, not, false≢true}
+use mathlib.Core.List.{List, [], _∷_}
 use Prim.Native.Nat.{ℕ, zero, suc, _<_}
 use native.Mathlib.Decide.{ℕ-discrete}
 use lib.Dec.{eqb, ltb}
@@ -21,7 +21,7 @@ use Rattle.bench.specs.declared.Bench.{Bench}
 use Rattle.bench.specs.Turning.{laneCount, laneAt}
 use Rattle.bench.specs.Calls.{freshBench, soundBench, put, openOf}
 use Rattle.bench.proofs.Soundness.{Sound, is-sound}
-use Rattle.bench_history.specs.History.{Call, opening, taking, closing, answerTo, codeOf, leaves, run, enters, releases, never, servedTimes}
+use Rattle.bench_history.specs.History.{Call, taking, closing, answerTo, codeOf, leaves, run, enters, releases, never, servedTimes}
 use Rattle.bench_history.specs.Promises.{Held, Eighty, AllIdle, Released}
 use Rattle.bench_history.proofs.Accepted.{opens, takes, closings}
 use Rattle.bench_history.proofs.Touched.{sound-leaves, put-here, Entered, Touch, touch, same, entered, left, served as serving}

@@ -5,3 +5,4 @@ pub mod Truth
 pub mod Computed
 pub mod Reflect
 pub mod Pointwise
+pub mod Filling

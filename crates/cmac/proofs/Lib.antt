@@ -1,6 +1,5 @@
--- Worked facts, and laws of the tag: a block written byte by byte, strings, subkeys, the chain, the last block, pieces, checking; and that no call has a second outcome.
+-- Worked facts, and laws of the tag: strings, subkeys, the chain, the last block, pieces, checking; and that no call has a second outcome.
 pub mod Facts
-pub mod Filling
 pub mod Strings
 pub mod Subkeys
 pub mod Chaining

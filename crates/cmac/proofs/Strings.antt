@@ -12,10 +12,10 @@ use lib.ListN.{length, take, drop, getD, replicate, length-append, length-replic
 use lib.Seq.{length-take-le, take-at, getD-append-add, ext-getD}
 use borrow.Author.Tests.{eq-eqb, eqb-true, eqb-false}
 use Rattle.bits.proofs.Truth.{both, together}
+use Rattle.bits.proofs.Filling.{written}
 use Rattle.cmac.specs.Standard.{_⊕_}
 use Rattle.cmac.specs.Calls.{kept, same}
 use Rattle.cmac.specs.Inner.{difference}
-use Rattle.cmac.proofs.Filling.{written}
 
 -- ---- xored
 

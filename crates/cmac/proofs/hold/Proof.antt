@@ -6,8 +6,8 @@ use native.Mathlib.Omega.{arith}
 use lib.ListN.{length, take}
 use borrow.Author.Needs.{needs}
 use denote.Ref.{now}
+use Rattle.bits.proofs.Filling.{written, written-length, written-more, written-all}
 use Rattle.cmac.specs.Calls.{kept}
-use Rattle.cmac.proofs.Filling.{written, written-length, written-more, written-all}
 use Rattle.cmac.proofs.Strings.{kept-length, kept-start, kept-byte}
 use Rattle.cmac.proofs.hold.Statement.{statement}
 use Rattle.cmac.proofs.hold.Tie as tie

@@ -7,8 +7,8 @@ use native.Mathlib.Omega.{arith}
 use lib.ListN.{length, getD, length-set}
 use borrow.Author.Needs.{needs}
 use denote.Ref.{now}
+use Rattle.bits.proofs.Filling.{written, written-more, written-here, written-rest, written-all}
 use Rattle.cmac.specs.Inner.{shiftedBytes}
-use Rattle.cmac.proofs.Filling.{written, written-more, written-here, written-rest, written-all}
 use Rattle.cmac.proofs.Subkeys.{length-shiftedBytes, getD-shiftedBytes, shifted-is}
 use Rattle.cmac.proofs.shift.Statement.{statement}
 use Rattle.cmac.proofs.shift.Tie as tie

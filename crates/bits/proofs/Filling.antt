@@ -1,4 +1,4 @@
--- A block that a loop writes byte by byte: below place i what is to stand there, from i on what stood there first.
+-- A list that a loop fills upward, one place at a time: below place i what is to stand there, from i on what stood there first.
 use mathlib.Core.Path.{_≡_, sym, ap, ap₂, _∙_}
 use mathlib.Core.List.{List, _∷_, _++_, append-nil}
 use Prim.Native.Nat.{ℕ, suc, _+_, _<_, _≤_}
@@ -13,7 +13,7 @@ written new old i = take i new ++ drop i old
 pub written-length : (new old r : List ℕ) (i : ℕ) → length new ≡ length old → i ≤ length old → r ≡ written new old i → length r ≡ length old
 written-length new old r i len h e = ap length e ∙ simp (length-append, length-take, length-drop) (omega arith)
 
--- one byte more
+-- one place more
 pub written-more : (new old r : List ℕ) (i y : ℕ) → length new ≡ length old → i < length old → r ≡ written new old i → y ≡ getD new i 0 → set r i y ≡ written new old (i + 1)
 written-more new old r i y len h e v =
     ap (λ (l : List ℕ). set l i y) (e ∙ ap (λ (l : List ℕ). take i new ++ l) (drop-cons old i 0 h))
