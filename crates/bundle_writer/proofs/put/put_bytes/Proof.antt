@@ -4,7 +4,7 @@ use Prim.Native.Nat.{_-_, _≤_}
 use native.Mathlib.Omega.{arith}
 use lib.ListN.{length, length-set}
 use denote.Ref.{now}
-use Rattle.cmac.proofs.Filling.{written, written-more, written-all}
+use Rattle.bits.proofs.Filling.{written, written-more, written-all}
 use Rattle.bundle_writer.proofs.put.put_bytes.Statement.{statement}
 use Rattle.bundle_writer.proofs.put.put_bytes.Tie as tie
 
