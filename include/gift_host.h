@@ -4,6 +4,9 @@
  * or tear down, and nothing is kept between calls: all memory is the host's, and is lent for the length of one call. Calls
  * on different memory may run at the same time. The library takes no heap and some one KiB of stack (1.3 KiB for streams, 2.3 KiB for CMAC,
  * 18 KiB where the plain engine is called), and calls nothing but memcpy and memset.
+
+ * on different memory may run at the same time. The library takes no heap and some one KiB of stack (2.3 KiB for CMAC,
+ * 2.5 KiB for bundles, 18 KiB where the plain engine is called), and calls nothing but memcpy and memset.
  *
  * A call answers 0 (GIFT_DONE) or the number of a refusal. Refusals are tried in the order given with each function, and
  * the first that applies is the one given. After a refusal everything lent is as it was before the call.
@@ -57,6 +60,12 @@ uint32_t gift_host_edition(void);
 #define GIFT_NOT_THE_OWNER 11    /* opening with owner 0; taking from or closing a busy lane with another number than its owner's */
 #define GIFT_TOO_FEW_COUNTERS 12 /* a piece needs more counters than the stream has left */
 #define GIFT_BAD_ORDER 13        /* an order that is neither 0 nor 1 */
+#define GIFT_BAD_BUNDLE_LENGTH 20 /* a bundle under 24 bytes, over 65,536, or with a total length that is not the buffer's */
+#define GIFT_BAD_TAG 21           /* a bundle's tag is not the CMAC of all before it */
+#define GIFT_MALFORMED 22         /* a bundle breaks the layout */
+#define GIFT_MUST_KNOW 23         /* a bundle has a setting that must be known, of a kind that the reader does not know */
+#define GIFT_BAD_LIST 24          /* rows and pool are no list of settings of the writer's edition that one bundle can hold */
+#define GIFT_SHORT_OUTPUT 25      /* the output is shorter than the bundle */
 
 /* The orders: how the sixteen bytes of a block are seen as its 128 bits, and these as bytes again. In either, the rounds and the key
  * are the same, and bit i of word j (gift_state) is bit 4i+j of the block. What the library did before edition 5 is order 0. */
@@ -270,6 +279,95 @@ uint32_t gift64_encrypt_blocks(const uint8_t *key, size_t key_len, const uint8_t
 uint32_t gift64_decrypt_blocks(const uint8_t *key, size_t key_len, const uint8_t *input, size_t input_len,
                                uint8_t *output, size_t output_len);
 
+/* ---- the settings bundle ----
+ *
+ * All numbers are big-endian. n is the number of settings, 0 to 256; a bundle has 24 to 65,536 bytes.
+ *
+ *     at 0        2 bytes   edition, at least 1
+ *     at 2        2         n
+ *     at 4        4         total length
+ *     at 8 + 12i  12        the entry of setting i: id (4), offset of its body (4), length of its body (2), kind (1), must-know 0 or 1 (1)
+ *     at 8 + 12n            the bodies in table order, without gaps
+ *     at the end  16        CMAC (gift_mac) over all before
+ *
+ * Ids rise strictly. Edition 1 has kind 0 (one byte, 0 or 1) and kind 1 (a number of 8 bytes); edition 2 adds kind 2 (text of 0 to 255 bytes of
+ * any value). A reader of one edition reads bundles of every edition. A setting of a kind that it does not know, in a bundle of a later edition, is
+ * unknown if its must-know is 0; if it is 1 the bundle is refused with 23.
+ *
+ * Proved of all bytes: two readers never show two values for one id; if both accept, what is absent for one is absent for the other; what the reader
+ * of edition 2 accepts, that of edition 1 accepts or refuses with 23; on bundles of edition 1 they agree wholly. What a writer wrote, a reader of its
+ * edition reads back exactly. docs/BUNDLE.md says it at length.
+ */
+
+#define GIFT_BUNDLE_MOST 65536 /* bytes of a bundle, at most */
+#define GIFT_BUNDLE_SETTINGS 256 /* settings of a bundle, at most */
+
+/* How a setting stands. There is no default: a value that is not there is not told as 0. */
+#define GIFT_REFUSED 0 /* no answer: the bundle was refused, or these are not the bytes that were looked through */
+#define GIFT_ABSENT 1  /* the bundle does not have it */
+#define GIFT_UNKNOWN 2 /* the bundle has it, and the reader does not know its kind */
+#define GIFT_VALUE 3   /* its kind, and its body, `length` bytes of the bundle at `at` */
+
+/* What is told of a setting: 20 bytes. What does not apply is 0; look at `state` first. */
+typedef struct gift_told {
+    uint32_t state;
+    uint32_t id; /* of the entry that is told of */
+    uint32_t kind;
+    uint32_t at;
+    uint32_t length;
+} gift_told;
+
+/* What asking for one id tells. */
+typedef struct gift_asked {
+    uint32_t code; /* 0, or the refusal, and then told.state is GIFT_REFUSED */
+    gift_told told;
+} gift_asked;
+
+/* One id of a bundle, by a reader of edition 1 or 2. Tag and layout are tested whole in every call. Refusals: 1, 20, 21, 22, 23. */
+gift_asked gift_bundle_ask_1(const uint8_t *key, size_t key_len, const uint8_t *bundle, size_t bundle_len, uint32_t id);
+gift_asked gift_bundle_ask_2(const uint8_t *key, size_t key_len, const uint8_t *bundle, size_t bundle_len, uint32_t id);
+
+/* A bundle that was looked through: the number given, by which edition's reader, its settings, and its bytes. On a refusal the last two are 0. */
+typedef struct gift_bundle {
+    uint32_t code;
+    uint32_t reader;
+    uint32_t count;
+    uint32_t size;
+} gift_bundle;
+
+/* Looks a bundle through once, tag and layout. Refusals: 1, 20, 21, 22, 23. */
+gift_bundle gift_bundle_open_1(const uint8_t *key, size_t key_len, const uint8_t *bundle, size_t bundle_len);
+gift_bundle gift_bundle_open_2(const uint8_t *key, size_t key_len, const uint8_t *bundle, size_t bundle_len);
+
+/* One id of a bundle that was looked through, by what that gave and the same bytes: what gift_bundle_ask tells, for a pass over the table. If the bundle
+ * was refused, or has another length, the state is GIFT_REFUSED whatever is asked: a host that forgot to look at the code gets no answer. That the bytes
+ * are still those that were looked through is the host's affair. */
+gift_told gift_bundle_look(gift_bundle seen, const uint8_t *bundle, size_t bundle_len, uint32_t id);
+
+/* The setting at place i of the table, ids rising, from 0 on; past the last one the state is GIFT_ABSENT. */
+gift_told gift_bundle_entry(gift_bundle seen, const uint8_t *bundle, size_t bundle_len, uint32_t i);
+
+/* A setting for the writer; its body is the next `length` bytes of the pool. */
+typedef struct gift_row {
+    uint32_t id;
+    uint32_t kind;
+    uint32_t must_know; /* 0 or 1 */
+    uint32_t length;
+} gift_row;
+
+/* What writing tells. */
+typedef struct gift_written {
+    uint32_t code;  /* 0, or the refusal */
+    uint32_t total; /* bytes of the bundle; 0 on a refusal */
+} gift_written;
+
+/* Writes a list of settings as a bundle of edition 1 or 2. The rows are passed as numbers, `(const uint32_t *)rows, 4 * count`; a number of numbers that
+ * is no multiple of 4, and a pool that is not as long as the rows say, are 24. Bytes of the output past the total stay. Refusals: 1, 24, 25. */
+gift_written gift_bundle_write_1(const uint8_t *key, size_t key_len, const uint32_t *rows, size_t rows_len, const uint8_t *pool, size_t pool_len,
+                                 uint8_t *out, size_t out_len);
+gift_written gift_bundle_write_2(const uint8_t *key, size_t key_len, const uint32_t *rows, size_t rows_len, const uint8_t *pool, size_t pool_len,
+                                 uint8_t *out, size_t out_len);
+
 /* The layout above, held to the compiler's where it can say so. */
 #if defined(__cplusplus) && __cplusplus >= 201103L
 #define GIFT_HOST_HOLDS(test) static_assert(test, #test)
@@ -285,6 +383,11 @@ GIFT_HOST_HOLDS(sizeof(gift_mac_told) == 360);
 GIFT_HOST_HOLDS(sizeof(gift_mac_checked) == 8);
 GIFT_HOST_HOLDS(sizeof(gift_stream) == 360);
 GIFT_HOST_HOLDS(sizeof(gift_stream_started) == 364);
+GIFT_HOST_HOLDS(sizeof(gift_told) == 20);
+GIFT_HOST_HOLDS(sizeof(gift_asked) == 24);
+GIFT_HOST_HOLDS(sizeof(gift_bundle) == 16);
+GIFT_HOST_HOLDS(sizeof(gift_row) == 16);
+GIFT_HOST_HOLDS(sizeof(gift_written) == 8);
 #ifdef offsetof
 GIFT_HOST_HOLDS(offsetof(gift_lane, direction) == 1);
 GIFT_HOST_HOLDS(offsetof(gift_lane, owner) == 2);

@@ -311,4 +311,5 @@ def main():
         print("AES-128: SP 800-38B's vectors; GIFT-128: %d cuttings give the whole message's tag" % checked())
 
 
-main()
+if __name__ == "__main__":
+    main()

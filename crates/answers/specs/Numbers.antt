@@ -46,3 +46,21 @@ TOO_FEW_COUNTERS = 12
 
 abbrev pub BAD_ORDER : ℕ
 BAD_ORDER = 13
+
+abbrev pub BAD_BUNDLE_LENGTH : ℕ
+BAD_BUNDLE_LENGTH = 20
+
+abbrev pub BAD_TAG : ℕ
+BAD_TAG = 21
+
+abbrev pub MALFORMED : ℕ
+MALFORMED = 22
+
+abbrev pub MUST_KNOW : ℕ
+MUST_KNOW = 23
+
+abbrev pub BAD_LIST : ℕ
+BAD_LIST = 24
+
+abbrev pub SHORT_OUTPUT : ℕ
+SHORT_OUTPUT = 25

@@ -42,3 +42,21 @@ pub const TOO_FEW_COUNTERS: u32 = 12;
 
 // The order's number is neither 0 nor 1.
 pub const BAD_ORDER: u32 = 13;
+
+// A bundle under 24 bytes, over 65,536, or with a total length that is not the buffer's.
+pub const BAD_BUNDLE_LENGTH: u32 = 20;
+
+// A bundle's tag is not the CMAC of all before it.
+pub const BAD_TAG: u32 = 21;
+
+// A bundle that breaks the layout.
+pub const MALFORMED: u32 = 22;
+
+// A bundle with a setting that must be known, of a kind that the reader does not know.
+pub const MUST_KNOW: u32 = 23;
+
+// Settings that are no list of the writer's edition, or too many for one bundle.
+pub const BAD_LIST: u32 = 24;
+
+// The output is shorter than the bundle.
+pub const SHORT_OUTPUT: u32 = 25;

@@ -1,6 +1,10 @@
 // What a host links, under C names: each function hands its arguments on to the proved call of the same meaning and gives back its answer.
 // The host's side of it is include/gift_host.h.
 use bench_lent::Turns;
+use bundle_format::Asked;
+use bundle_format::Opened;
+use bundle_format::Told;
+use bundle_format::Written;
 use cmac::Checked;
 use cmac::Fed;
 use cmac::Mac;
@@ -15,6 +19,8 @@ ghost use Rattle.gift128.specs.Calls.{EncryptsByKeyIn, DecryptsByKeyIn, Encrypt
 ghost use Rattle.counter.specs.Calls.{Starts as StartsStream, Feeds as FeedsStream};
 ghost use Rattle.cmac.specs.Calls.{TagsWhole, Checks, Starts, Feeds, TagsState};
 ghost use Rattle.bench_lent.specs.Lent.{Opens, Serves, Takes, Closes};
+ghost use Rattle.bundle_format.specs.Reader.{Asks, opened, lookedUp, entryOf};
+ghost use Rattle.bundle_format.specs.Writer.{Writes};
 ghost use Rattle.gift_host.specs.Edition.{edition};
 
 // The edition of records, arguments and counts that this library has. GIFT_HOST_EDITION in the header is the one that a host was compiled for.
@@ -257,4 +263,74 @@ pub extern "C" fn gift64_decrypt_blocks(key: &[u8], input: &[u8], output: &mut [
     ensures { λ r. ⌜ DecryptsBlocks64 (now (key .entry)) (now (input .entry)) (now (output .entry)) r (now (output .exit)) ⌝ }
 {
     gift64::decrypt_blocks(key, input, output)
+}
+
+// The settings bundle (2026-11), by a reader and a writer of edition 1 or 2. One id of a bundle: 1, 20, 21, 22, 23.
+#[no_mangle]
+pub extern "C" fn gift_bundle_ask_1(key: &[u8], bundle: &[u8], id: u32) -> Asked
+    ensures { λ r. ⌜ Asks 1 (now (key .entry)) (now (bundle .entry)) id (r .code) (r .told) ⌝ }
+{
+    bundle_reader::ask_1(key, bundle, id)
+}
+
+#[no_mangle]
+pub extern "C" fn gift_bundle_ask_2(key: &[u8], bundle: &[u8], id: u32) -> Asked
+    ensures { λ r. ⌜ Asks 2 (now (key .entry)) (now (bundle .entry)) id (r .code) (r .told) ⌝ }
+{
+    bundle_reader::ask_2(key, bundle, id)
+}
+
+// A bundle looked through once: 1, 20, 21, 22, 23.
+#[no_mangle]
+pub extern "C" fn gift_bundle_open_1(key: &[u8], bundle: &[u8]) -> Opened
+    ensures { λ r. ⌜ r ≡ opened 1 (now (key .entry)) (now (bundle .entry)) ⌝ }
+{
+    bundle_reader::open_1(key, bundle)
+}
+
+#[no_mangle]
+pub extern "C" fn gift_bundle_open_2(key: &[u8], bundle: &[u8]) -> Opened
+    ensures { λ r. ⌜ r ≡ opened 2 (now (key .entry)) (now (bundle .entry)) ⌝ }
+{
+    bundle_reader::open_2(key, bundle)
+}
+
+// Then one id of it, or the entry at a place.
+#[no_mangle]
+pub extern "C" fn gift_bundle_look(seen: Opened, bundle: &[u8], id: u32) -> Told
+    ensures { λ r. ⌜ r ≡ lookedUp seen (now (bundle .entry)) id ⌝ }
+{
+    bundle_reader::look(seen, bundle, id)
+}
+
+#[no_mangle]
+pub extern "C" fn gift_bundle_entry(seen: Opened, bundle: &[u8], i: u32) -> Told
+    ensures { λ r. ⌜ r ≡ entryOf seen (now (bundle .entry)) i ⌝ }
+{
+    bundle_reader::entry(seen, bundle, i)
+}
+
+// A list written: 1, 24, 25.
+#[no_mangle]
+pub extern "C" fn gift_bundle_write_1(
+    key: &[u8],
+    rows: &[u32],
+    pool: &[u8],
+    out: &mut [u8],
+) -> Written
+    ensures { λ r. ⌜ Writes 1 (now (key .entry)) (now (rows .entry)) (now (pool .entry)) (now (out .entry)) (r .code) (r .total) (now (out .exit)) ⌝ }
+{
+    bundle_writer::write_1(key, rows, pool, out)
+}
+
+#[no_mangle]
+pub extern "C" fn gift_bundle_write_2(
+    key: &[u8],
+    rows: &[u32],
+    pool: &[u8],
+    out: &mut [u8],
+) -> Written
+    ensures { λ r. ⌜ Writes 2 (now (key .entry)) (now (rows .entry)) (now (pool .entry)) (now (out .entry)) (r .code) (r .total) (now (out .exit)) ⌝ }
+{
+    bundle_writer::write_2(key, rows, pool, out)
 }

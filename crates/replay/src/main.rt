@@ -4,6 +4,7 @@
 // after it are counted, or `# TEXT`, a remark, or it tells a record of the bench (benches.rt). The last line of the output says how many
 // cases were equal and how many different. The cases that the gate replays stand in the file stdin beside src/.
 mod benches;
+mod bundles;
 mod cipher;
 mod gift64s;
 mod macs;
@@ -81,7 +82,8 @@ fn call_of(line: &[u8]) -> u32 {
           open_lane=31 turn=32 close=33 take=34 fresh=35 put=41 record=42 #=51 ##=52 \
           cmac=61 cmac_check=62 cmac_start=63 cmac_piece=64 cmac_tag=65 \
           start_stream=71 stream_piece=72 \
-          gift64_encrypt_by_key=81 gift64_decrypt_by_key=82 gift64_encrypt_blocks=83 gift64_decrypt_blocks=84",
+          gift64_encrypt_by_key=81 gift64_decrypt_by_key=82 gift64_encrypt_blocks=83 gift64_decrypt_blocks=84 \
+          bundle_ask=91 bundle_open=92 bundle_look=93 bundle_entry=94 bundle_write=95",
         &line[0..e],
     )
 }
@@ -121,6 +123,7 @@ fn judged(r: Run, line: &[u8]) -> Run {
         0x61..=0x65 => counted(r, macs::right(call, line), line),
         0x71..=0x72 => counted(r, streams::right(call, line), line),
         0x81..=0x84 => counted(r, gift64s::right(call, line), line),
+        0x91..=0x95 => counted(r, bundles::right(call, line), line),
         _ => counted(r, cipher::right(call, line), line),
     }
 }

@@ -4,6 +4,8 @@
 //! value, and a `&mut` alone in reaching what it reaches. So each call is safe.
 #![allow(unsafe_code)]
 
+pub mod bundles;
+
 use core::sync::atomic::{AtomicBool, Ordering};
 
 use crate::bench::{Lane, Order};

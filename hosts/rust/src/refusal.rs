@@ -1,4 +1,4 @@
-//! The twelve refusals, by name and by number.
+//! The refusals, by name and by number.
 
 use core::fmt;
 
@@ -32,11 +32,23 @@ pub enum Refusal {
     TooFewCounters = 12,
     /// 13: an order that is neither 0 nor 1.
     BadOrder = 13,
+    /// 20: a bundle under 24 bytes, over 65,536, or with a total length that is not the buffer's.
+    BadBundleLength = 20,
+    /// 21: a bundle's tag is not the CMAC of all before it.
+    BadTag = 21,
+    /// 22: a bundle breaks the layout.
+    Malformed = 22,
+    /// 23: a bundle has a setting that must be known, of a kind that the reader does not know.
+    MustKnow = 23,
+    /// 24: rows and pool are no list of settings of the writer's edition that one bundle can hold.
+    BadList = 24,
+    /// 25: the output is shorter than the bundle.
+    ShortOutput = 25,
 }
 
 impl Refusal {
-    /// All thirteen, in the order of their numbers.
-    pub const ALL: [Refusal; 13] = [
+    /// All of them, in the order of their numbers.
+    pub const ALL: [Refusal; 19] = [
         Refusal::BadKeyLength,
         Refusal::BadBlockLength,
         Refusal::BadOutputLength,
@@ -50,9 +62,15 @@ impl Refusal {
         Refusal::NotTheOwner,
         Refusal::TooFewCounters,
         Refusal::BadOrder,
+        Refusal::BadBundleLength,
+        Refusal::BadTag,
+        Refusal::Malformed,
+        Refusal::MustKnow,
+        Refusal::BadList,
+        Refusal::ShortOutput,
     ];
 
-    /// Its number, 1 to 13.
+    /// Its number, 1 to 13 or 20 to 25.
     pub const fn number(self) -> u32 {
         self as u32
     }
@@ -92,6 +110,12 @@ impl fmt::Display for Refusal {
             Refusal::NotTheOwner => "the lane is another's",
             Refusal::TooFewCounters => "the stream has too few counters left",
             Refusal::BadOrder => "the order is neither 0 nor 1",
+            Refusal::BadBundleLength => "the bundle has another length than it says, or than a bundle has",
+            Refusal::BadTag => "the bundle's tag is not right",
+            Refusal::Malformed => "the bundle breaks the layout",
+            Refusal::MustKnow => "the bundle has a setting that must be known and is not",
+            Refusal::BadList => "these settings are no list that a bundle can hold",
+            Refusal::ShortOutput => "the output is shorter than the bundle",
         })
     }
 }

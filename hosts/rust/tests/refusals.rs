@@ -8,7 +8,7 @@ const WORD_COUNTS: [usize; 7] = [0, 1, 16, 79, 80, 81, 160];
 
 #[test]
 fn numbers_and_names() {
-    for (n, refusal) in (1..=13).zip(Refusal::ALL) {
+    for (n, refusal) in (1..=13).chain(20..=25).zip(Refusal::ALL) {
         assert_eq!(
             (refusal.number(), u32::from(refusal), Refusal::try_from(n)),
             (n, n, Ok(refusal))

@@ -1,0 +1,2 @@
+-- Inner: the part of the table that a loop has before it.
+pub mod Inner

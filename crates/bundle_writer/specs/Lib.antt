@@ -1,0 +1,2 @@
+-- Inner: the table's entries of rows that are lent.
+pub mod Inner
