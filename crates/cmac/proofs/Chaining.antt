@@ -10,14 +10,7 @@ use lib.Seq.{drop-drop, drop-append-le, take-append-le}
 use borrow.Author.Tests.{ne-eqb}
 use Rattle.published.specs.Gift128.{encrypted}
 use Rattle.published.proofs.Reading.{length-toBytes}
-use Rattle.gift128.specs.Calls.{encryptedBy}
 use Rattle.cmac.specs.Standard.{_⊕_, zeroBlock, blockCount, before, blocks, past, lastBlock, chained, cmac}
-
--- ---- the cipher by words
-
-pub length-encryptedBy : (ws b : List ℕ) → length (encryptedBy ws b) ≡ 16
-unfolding encryptedBy
-length-encryptedBy ws b = length-toBytes 16 _
 
 -- ---- how many blocks are before the last
 

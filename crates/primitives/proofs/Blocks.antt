@@ -1,10 +1,9 @@
 -- Four words and the block that they stand for: the words of a block stand for it, at every width; and at 128 bits the block of four words has those words.
 use mathlib.Core.Path.{_≡_, refl}
-use Prim.Native.Nat.{ℕ, _*_, _/_, _%_, _^_, _<_}
+use Prim.Native.Nat.{ℕ, _*_, _/_, _^_, _<_}
 use native.Mathlib.Omega.{arith}
-use Rattle.bits.specs.Digit.{bit}
 use Rattle.published.specs.Packing.{word}
-use Rattle.published.proofs.Words.{four, block-of-words, fromWords-lt, bit-fromWords, word-fromWords}
+use Rattle.published.proofs.Words.{four, block-of-words, fromWords-lt, word-fromWords}
 use Rattle.primitives.specs.declared.State.{State}
 use Rattle.primitives.specs.Packed.{wordOf, blockFrom, stateFrom, blockOf, stateOf, Words}
 
@@ -29,10 +28,6 @@ wordOf-stateOf = wordOf-stateFrom 128
 pub blockOf-lt : (s : State) → blockOf s < 2 ^ 128
 unfolding blockOf
 blockOf-lt s = fromWords-lt (wordOf s)
-
-pub bit-blockOf : (s : State) (q : ℕ) → q < 128 → bit (blockOf s) q ≡ bit (wordOf s (q % 4)) (q / 4)
-unfolding blockOf
-bit-blockOf s = bit-fromWords (wordOf s)
 
 pub blockOf-stateOf : (x : ℕ) → x < 2 ^ 128 → blockOf (stateOf x) ≡ x
 unfolding blockOf stateOf
