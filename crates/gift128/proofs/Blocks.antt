@@ -17,7 +17,7 @@ use Rattle.primitives.specs.Packed.{blockOf, stateOf}
 use Rattle.primitives.specs.declared.State.{State}
 use Rattle.primitives.proofs.Blocks.{blockOf-stateOf}
 use Rattle.round_words.specs.Arranged.{pairsFrom}
-use Rattle.round_words.proofs.Pairs.{first-pair}
+use Rattle.round_words.proofs.Keeping.{first-pair}
 use Rattle.packing.specs.Packing.{packed, unpacked}
 use Rattle.packing.proofs.Inverse.{packed-block, unpacked-block}
 use Rattle.quintuple.specs.Quintuple.{firstRound}

@@ -9,7 +9,7 @@ use Rattle.published.specs.Key.{update, pairs}
 use Rattle.published.specs.Gift128.{pairOf, pairsOf}
 use Rattle.published.proofs.Gift128.{length-pairs}
 use Rattle.round_words.specs.Arranged.{pairsFrom}
-use Rattle.round_words.proofs.Pairs.{Fit, length-words, pairs-words}
+use Rattle.round_words.proofs.Keeping.{Fit, length-words, pairs-words}
 use Rattle.key_schedule.specs.declared.Ten.{Ten}
 use Rattle.key_schedule.specs.Expand.{expanded}
 use Rattle.key_schedule.specs.InnerTens.{firstWords, fiveRounds, fiveLater, wordsOf, following, grown}

@@ -1,15 +1,16 @@
 -- Round words and the pairs that they stand for: two words for each pair, five pairs for each quintuple.
 use mathlib.Core.Path.{_≡_, refl, sym, ap, ap₂, _∙_}
 use mathlib.Core.List.{List, [], _∷_}
-use Prim.Native.Nat.{ℕ, zero, suc, _+_, _*_, _%_, _^_, _<_, suc-le-suc}
+use Prim.Native.Nat.{ℕ, zero, suc, _+_, _-_, _*_, _%_, _^_, _<_, suc-le-suc}
 use native.Mathlib.Nat.{mod-lt}
 use native.Mathlib.Omega.{arith}
 use lib.Dec.{lit<}
 use lib.ListN.{length, take, drop}
 use lib.Seq.{drop-drop}
 use Rattle.published.specs.Rounds.{Pair}
-use Rattle.round_words.specs.Arranged.{stands, wordsFrom, pairsFrom}
-use Rattle.round_words.proofs.Arrangements.{stands-arranged}
+use Rattle.primitives.proofs.Moves.{permuted-lt}
+use Rattle.round_words.specs.Arranged.{nibbleAt, stands, wordsFrom, pairsFrom}
+use Rattle.round_words.proofs.Arrangements.{stands-arranged, arranged-stands}
 
 abbrev double : ℕ → ℕ
 double zero = 0
@@ -85,3 +86,26 @@ pairs-words k (p ∷ ps) h f =
     ap₂ (λ (q : Pair) (qs : List Pair). q ∷ qs)
     (λ i. record { u = stands-arranged (suc k) (p .u) (suc-le-suc h) (f .0) i; v = stands-arranged (suc k) (p .v) (suc-le-suc h) (f .1) i })
     (pairs-words (suc k % 5) ps (mod-lt (suc k) (lit< tt)) (f .2))
+
+-- ---- any words
+
+-- words of 32 bits each, two for each pair
+abbrev pub Words : List ℕ → Type 0
+Words [] = Unit {0}
+Words (v ∷ []) = ⊥
+Words (v ∷ u ∷ ws) = (v < 2 ^ 32) × (u < 2 ^ 32) × Words ws
+
+-- what words stand for has 32 bits, and is kept as those words
+pub fit-pairs : (k : ℕ) (ws : List ℕ) → Fit (pairsFrom k ws)
+unfolding pairsFrom stands
+fit-pairs k [] = tt
+fit-pairs k (v ∷ []) = tt
+fit-pairs k (v ∷ u ∷ ws) = (permuted-lt (nibbleAt (5 - suc k)) u, permuted-lt (nibbleAt (5 - suc k)) v, fit-pairs (suc k % 5) ws)
+
+pub words-pairs : (k : ℕ) (ws : List ℕ) → k < 5 → Words ws → wordsFrom k (pairsFrom k ws) ≡ ws
+unfolding wordsFrom pairsFrom
+words-pairs k [] h f = refl
+words-pairs k (v ∷ []) h f = absurd f
+words-pairs k (v ∷ u ∷ ws) h f =
+    ap₂ (λ (a : ℕ) (l : List ℕ). a ∷ l) (arranged-stands (suc k) v (suc-le-suc h) (f .0))
+    (ap₂ (λ (a : ℕ) (l : List ℕ). a ∷ l) (arranged-stands (suc k) u (suc-le-suc h) (f .1)) (words-pairs (suc k % 5) ws (mod-lt (suc k) (lit< tt)) (f .2)))
