@@ -1,4 +1,4 @@
--- Two keys that give the same eighty words are equal: the pairs of the first two rounds are all 128 bits of a key.
+-- Two keys that give the same pairs are equal: the pairs of the first two rounds are all 128 bits of a key.
 use mathlib.Core.Path.{_≡_, sym, ap, _∙_}
 use mathlib.Core.List.{List, [], _∷_}
 use Prim.Native.Nat.{ℕ, _^_, _<_}
@@ -13,10 +13,7 @@ use Rattle.published.specs.Key.{_‖_, update, pairs}
 use Rattle.published.specs.Gift128.{pairOf, pairsOf}
 use Rattle.published.proofs.Reading.{to-from}
 use Rattle.published.proofs.Gift128.{block-lt}
-use Rattle.round_words.specs.Arranged.{pairsFrom}
-use Rattle.key_schedule.specs.Expand.{expanded}
 use Rattle.key_schedule.proofs.KeyState.{one-on}
-use Rattle.key_schedule.proofs.Expanded.{pairs-of-expanded}
 
 -- U and V of the first round, and those of the second
 abbrev of : (Pair → ℕ) → List Pair → ℕ
@@ -75,6 +72,3 @@ module _ (key key′ : List ℕ) (len : length key ≡ 16) (len′ : length key�
       sym (whole key len bytes)
       ∙ ap (toBytes 16) (same-state (fromBytes key) (fromBytes key′) e (block-lt key len bytes) (block-lt key′ len′ bytes′))
       ∙ whole key′ len′ bytes′
-
-  pub equal-words-equal-keys : expanded key ≡ expanded key′ → key ≡ key′
-  equal-words-equal-keys e = equal-pairs-equal-keys (sym (pairs-of-expanded key) ∙ ap (pairsFrom 0) e ∙ pairs-of-expanded key′)

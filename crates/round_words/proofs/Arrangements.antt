@@ -32,6 +32,10 @@ pub arranged-lt : (k w : ℕ) → arranged k w < 2 ^ 32
 unfolding arranged
 arranged-lt k w = permuted-lt (nibbleAt k) w
 
+pub stands-lt : (k w : ℕ) → stands k w < 2 ^ 32
+unfolding stands
+stands-lt k w = permuted-lt (nibbleAt (5 - k)) w
+
 pub stands-arranged : (k w : ℕ) → k < 6 → w < 2 ^ 32 → stands k (arranged k w) ≡ w
 unfolding stands arranged
 stands-arranged k w hk h =

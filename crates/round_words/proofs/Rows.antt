@@ -14,6 +14,7 @@ use Rattle.round_words.specs.Arranged.{arranged, stands, wordsFrom, pair
 use Rattle.round_words.specs.Calls.{rowCode}
 use Rattle.round_words.specs.Inner.{placeIn, mapped, rearranged}
 use Rattle.round_words.proofs.Arrangements.{stands-is}
+use Rattle.round_words.proofs.Keeping.{double}
 
 pub of-in-row : (ps : List Pair) → ofRow (inRow ps) ≡ ps
 unfolding inRow ofRow
@@ -25,10 +26,6 @@ abbrev Twos : List ℕ → Type 0
 Twos [] = Unit {0}
 Twos (v ∷ []) = ⊥
 Twos (v ∷ u ∷ ns) = Twos ns
-
-abbrev double : ℕ → ℕ
-double zero = 0
-double (suc j) = suc (suc (double j))
 
 twos : (j : ℕ) (ns : List ℕ) → length ns ≡ double j → Twos ns
 twos j [] e = tt
@@ -107,6 +104,18 @@ pairs-told ws e = sym (pairs-row 0 0 ws (twos 40 ws e) refl ∙ mapped-cong _ _ 
 pub words-told : (ns : List ℕ) → length ns ≡ 80 → rearranged false ns ≡ wordsFrom 0 (ofRow ns)
 unfolding rearranged placeIn
 words-told ns e = sym (words-row 0 0 ns (twos 40 ns e) refl ∙ mapped-cong _ _ 0 ns (λ n x. ap (λ (k : ℕ). arranged k x) (omega arith)))
+
+-- so each number of the row of pairs is what the word at its place stands for, and each word is made of the number at its place
+pub pair-row : (ws : List ℕ) (i : ℕ) → length ws ≡ 80 → i < 80 → getD (inRow (pairsFrom 0 ws)) i 0 ≡ stands (suc (i / 2 % 5)) (getD ws i 0)
+unfolding placeIn
+pair-row ws i e h =
+    ap (λ (l : List ℕ). getD l i 0) (sym (pairs-told ws e)) ∙ at-place true ws i (rw e h) ∙ ap (λ (k : ℕ). arranged k (getD ws i 0)) (omega arith)
+    ∙ sym (stands-is (suc (i / 2 % 5)) (getD ws i 0))
+
+pub word-row : (row : List ℕ) (i : ℕ) → length row ≡ 80 → i < 80 → getD (wordsFrom 0 (ofRow row)) i 0 ≡ arranged (suc (i / 2 % 5)) (getD row i 0)
+unfolding placeIn
+word-row row i e h =
+    ap (λ (l : List ℕ). getD l i 0) (sym (words-told row e)) ∙ at-place false row i (rw e h) ∙ ap (λ (k : ℕ). arranged k (getD row i 0)) (omega arith)
 
 pub length-rearranged : (back : Bool) (xs : List ℕ) → length (rearranged back xs) ≡ length xs
 unfolding rearranged
