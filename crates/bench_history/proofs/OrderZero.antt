@@ -3,7 +3,7 @@
 use mathlib.Core.Path.{_≡_, refl, ap}
 use mathlib.Core.Bool.{Bool, true, false, cond, not}
 use mathlib.Core.List.{List}
-use Prim.Native.Nat.{ℕ, _-_, _*_}
+use Prim.Native.Nat.{ℕ, _-_, _*_, _≤_}
 use lib.Dec.{eqb, leb, ltb}
 use lib.ListN.{length, take, drop}
 use Rattle.answers.specs.Numbers.{DONE, BAD_KEY_LENGTH, BAD_BLOCK_LENGTH, BAD_LANE, LANE_NOT_IDLE, BAD_DIRECTION, BAD_BENCH, NOT_THE_OWNER}
@@ -11,6 +11,7 @@ use Rattle.answers.specs.Order.{unless}
 use Rattle.published.specs.Bytes.{readBlock, writeBlock, Bytes}
 use Rattle.published.specs.Seen.{seen}
 use Rattle.published.specs.Gift128.{pairsOf, rounds128, unrounds128, encrypted, decrypted}
+use Rattle.published.proofs.Gift128.{block-lt}
 use Rattle.published.proofs.Seen.{inward, outward, permuted, order-1-by-0}
 use Rattle.primitives.specs.declared.State.{State}
 use Rattle.primitives.specs.Packed.{blockOf, stateOf}
@@ -23,6 +24,7 @@ use Rattle.lane.specs.Record.{idle, running, opened, yielded}
 use Rattle.bench.specs.Turning.{laneCount}
 use Rattle.bench.specs.Orders.{openCode}
 use Rattle.bench_history.specs.Promises.{reached, answer}
+use Rattle.bench_history.proofs.Quintuples.{reached-from-the-start}
 
 pub packed-0 : (bs : List ℕ) → packed 0 bs ≡ cond (eqb (length bs) 16) (stateOf (readBlock bs)) noWords
 unfolding packed
@@ -64,13 +66,12 @@ pub yielded-0 : (l : Lane) (out : List ℕ) → l .order ≡ 0 → yielded l out
 unfolding yielded unpacked
 yielded-0 l out e = ap (λ (o : ℕ). unpacked o (l .state) out) e
 
-pub reached-0 : (direction : ℕ) (key block : List ℕ) (t : ℕ)
-    → reached direction 0 key block t
+pub reached-0 : (owner direction : ℕ) (key block : List ℕ) → length key ≡ 16 → length block ≡ 16 → Bytes block → (t : ℕ) → t ≤ 8
+    → reached direction (pairsOf key) 0 t (blockOf (opened owner direction 0 key block .state))
     ≡ cond (eqb direction 0)
     (rounds128 (take (5 * t) (pairsOf key)) 0 (readBlock block))
     (unrounds128 (drop (40 - 5 * t) (pairsOf key)) (40 - 5 * t) (readBlock block))
-unfolding reached
-reached-0 direction key block t = refl
+reached-0 owner direction key block k b h = reached-from-the-start owner direction 0 key block (block-lt block b h) refl k b
 
 pub answer-0 : (direction : ℕ) (key block : List ℕ) → answer direction 0 key block ≡ cond (eqb direction 0) (encrypted key block) (decrypted key block)
 unfolding answer encrypted decrypted
