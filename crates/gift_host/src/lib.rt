@@ -15,6 +15,7 @@ ghost use mathlib.Core.Bool.{true, false};
 ghost use denote.Ref.{now};
 ghost use Rattle.published.specs.Calls.{CiphersByKey};
 ghost use Rattle.published.specs.Calls64.{CiphersByKey64, CiphersBlocks64};
+ghost use Rattle.round_words.specs.Calls.{TellsPairs, TellsWords};
 ghost use Rattle.key_schedule.specs.Expand.{Expands};
 ghost use Rattle.gift128.specs.Calls.{CiphersByKeyIn, CiphersByWordsIn, CiphersBlocksIn};
 ghost use Rattle.counter.specs.Calls.{Starts as StartsStream, Feeds as FeedsStream};
@@ -85,6 +86,21 @@ pub extern "C" fn gift_expand(key: &[u8], words: &mut [u32]) -> u32
     ensures { λ r. ⌜ Expands (now (key .entry)) (now (words .entry)) r (now (words .exit)) ⌝ }
 {
     key_schedule::precompute_rkeys(key, words)
+}
+
+// The forty pairs that eighty round words stand for, V and then U of each, and the words that stand for such pairs. Refusals: 4, 3.
+#[no_mangle]
+pub extern "C" fn gift_pairs(words: &[u32], pairs: &mut [u32]) -> u32
+    ensures { λ r. ⌜ TellsPairs (now (words .entry)) (now (pairs .entry)) r (now (pairs .exit)) ⌝ }
+{
+    round_words::pairs(words, pairs)
+}
+
+#[no_mangle]
+pub extern "C" fn gift_words(pairs: &[u32], words: &mut [u32]) -> u32
+    ensures { λ r. ⌜ TellsWords (now (pairs .entry)) (now (words .entry)) r (now (words .exit)) ⌝ }
+{
+    round_words::words(pairs, words)
 }
 
 // Many blocks by a key, from one buffer to another. Refusals: 13, 1, 2, 3.
