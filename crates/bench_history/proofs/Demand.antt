@@ -336,20 +336,21 @@ module _ (b : Bench) (ok : soundBench b ≡ true) (n : ℕ) (cs : List Call) whe
 
   -- it stands at the rounds that its words stand for, from where it was, and yields what they make
   module _ (hn : n < laneCount) (w : ℕ) (own : BusyFor w (laneAt (b .lanes) n)) (kept : never (releases n w) b cs ≡ true) (eighty : length (laneAt (b .lanes) n .words) ≡ 80) (fit : Words (laneAt (b .lanes) n .state)) where
-    abbrev was : Lane
-    was = laneAt (b .lanes) n
-
-    pub served-by-its-words : laneAt (run b cs .lanes) n ≡ onward (pairsFrom 0 (was .words)) (times n (log b cs)) was
+    pub served-by-its-words : laneAt (run b cs .lanes) n ≡ onward (pairsFrom 0 (laneAt (b .lanes) n .words)) (times n (log b cs)) (laneAt (b .lanes) n)
     served-by-its-words =
+        let was : Lane = laneAt (b .lanes) n in
         let after : After was (times n (log b cs)) (laneAt (run b cs .lanes) n) = stand n w cs b (is-sound b ok) own kept in
         after .is
         ∙ turns-are-rounds was eighty (phase-by-count was (is-sound b ok .each n hn) (own .busy)) (stateOf-blockOf (was .state) fit) (times n (log b cs))
         (omega (arith, after .counted, sound-count (laneAt (run b cs .lanes) n) (run-sound cs b (is-sound b ok) .each n hn)))
 
     pub yields-by-its-words : (out : List ℕ) → takeOf (run b cs) n w out .code ≡ DONE
-        → takenBytes (run b cs) n w out ≡ writeIn (was .order) (reached (was .direction) (pairsFrom 0 (was .words)) (was .count) (times n (log b cs)) (blockOf (was .state)))
+        → takenBytes (run b cs) n w out
+        ≡ writeIn (laneAt (b .lanes) n .order)
+        (reached (laneAt (b .lanes) n .direction) (pairsFrom 0 (laneAt (b .lanes) n .words)) (laneAt (b .lanes) n .count) (times n (log b cs)) (blockOf (laneAt (b .lanes) n .state)))
     unfolding takenBytes answerTo onward
     yields-by-its-words out e =
+        let was : Lane = laneAt (b .lanes) n in
         let l : Lane = laneAt (run b cs .lanes) n in
         let busy : l .phase ≢ idle = stand n w cs b (is-sound b ok) own kept .busy (own .busy) in
         if-done _ _ out e

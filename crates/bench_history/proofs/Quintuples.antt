@@ -3,7 +3,7 @@ use mathlib.Core.Path.{_≡_, refl, sym, ap, ap₂, _∙_}
 use mathlib.Core.Bool.{Bool, true, false, cond, false≢true}
 use mathlib.Core.List.{List}
 use mathlib.Core.Logic.{_≢_}
-use Prim.Native.Nat.{ℕ, zero, suc, _+_, _-_, _*_, _/_, _%_, _^_, _≤_, _<_}
+use Prim.Native.Nat.{ℕ, zero, suc, _+_, _-_, _*_, _^_, _≤_, _<_}
 use native.Mathlib.Nat.{le-of-eq, add-zero, zero-add}
 use native.Mathlib.Decide.{ℕ-discrete}
 use native.Mathlib.Omega.{arith}
@@ -113,10 +113,8 @@ reached-lt direction ps c t x h =
     (λ e. unrounds-lt 128 1 width128 (take (5 * t) (drop (40 - 5 * (c + t)) ps)) (40 - 5 * (c + t)) x h)
 
 module _ (l : Lane) (eighty : length (l .words) ≡ 80) where
-  abbrev its : List Pair
-  its = pairsFrom 0 (l .words)
-
-  advance : (t : ℕ) → l .count + t < 8 → advanced (onward its t l) ≡ stateOf (reached (l .direction) its (l .count) (suc t) (blockOf (l .state)))
+  advance : (t : ℕ) → l .count + t < 8
+      → advanced (onward (pairsFrom 0 (l .words)) t l) ≡ stateOf (reached (l .direction) (pairsFrom 0 (l .words)) (l .count) (suc t) (blockOf (l .state)))
   unfolding advanced onward reached
   advance t h = go (eqb (l .direction) 0)
     where
@@ -126,6 +124,9 @@ module _ (l : Lane) (eighty : length (l .words) ≡ 80) where
       x : ℕ
       x = blockOf (l .state)
 
+      its : List Pair
+      its = pairsFrom 0 (l .words)
+
       go : (f : Bool)
           → cond f
           (quintupled (stateOf (cond f (rounds128 (take (5 * t) (drop (5 * c) its)) (5 * c) x) (unrounds128 (take (5 * t) (drop (40 - 5 * (c + t)) its)) (40 - 5 * (c + t)) x))) (drop (2 * (5 * (c + t))) (l .words)) (5 * (c + t)))
@@ -134,7 +135,7 @@ module _ (l : Lane) (eighty : length (l .words) ≡ 80) where
       go true = forward (l .words) eighty c t x h (blockOf-lt (l .state))
       go false = backward (l .words) eighty c t x h (blockOf-lt (l .state))
 
-  serve : (t : ℕ) → l .count + t < 8 → served (onward its t l) ≡ onward its (suc t) l
+  serve : (t : ℕ) → l .count + t < 8 → served (onward (pairsFrom 0 (l .words)) t l) ≡ onward (pairsFrom 0 (l .words)) (suc t) l
   unfolding served onward
   serve t h =
       let one : l .count + t + 1 ≡ l .count + suc t = omega arith in
@@ -145,7 +146,7 @@ module _ (l : Lane) (eighty : length (l .words) ≡ 80) where
 
   -- with its phase as its count has it, and words of 32 bits in its state
   module _ (phased : l .phase ≡ cond (leb 8 (l .count)) finished running) (stated : stateOf (blockOf (l .state)) ≡ l .state) where
-    start : l ≡ onward its 0 l
+    start : l ≡ onward (pairsFrom 0 (l .words)) 0 l
     unfolding onward reached rounds unrounds
     start =
         let none : l .count ≡ l .count + 0 = sym (add-zero (l .count)) in
@@ -156,7 +157,7 @@ module _ (l : Lane) (eighty : length (l .words) ≡ 80) where
         same true = refl
         same false = refl
 
-    pub turns-are-rounds : (t : ℕ) → l .count + t ≤ 8 → servedTimes t l ≡ onward its t l
+    pub turns-are-rounds : (t : ℕ) → l .count + t ≤ 8 → servedTimes t l ≡ onward (pairsFrom 0 (l .words)) t l
     unfolding servedTimes
     turns-are-rounds zero h = start
     turns-are-rounds (suc t) h = ap served (turns-are-rounds t (omega arith)) ∙ serve t (omega arith)
@@ -179,23 +180,20 @@ unfolding pairsOf
 all-pairs key = length-pairs pairOf 40 _
 
 module _ (owner direction order : ℕ) (key block : List ℕ) (x-lt : readIn order block < 2 ^ 128) (o : isOrder order ≡ true) (k : length key ≡ 16) (b : length block ≡ 16) where
-  abbrev fresh : Lane
-  fresh = opened owner direction order key block
-
   abbrev begun : Lane
   begun = record { phase = running; direction = direction; owner = owner; count = 0; order = order; words = expanded key; state = stateOf (readIn order block) }
 
-  is-begun : fresh ≡ begun
+  is-begun : opened owner direction order key block ≡ begun
   is-begun = opened-on owner direction order key block o k b
 
-  pub reach : (t : ℕ) → t ≤ 8 → servedTimes t fresh ≡ onward (pairsOf key) t fresh
+  pub reach : (t : ℕ) → t ≤ 8 → servedTimes t (opened owner direction order key block) ≡ onward (pairsOf key) t (opened owner direction order key block)
   reach t h =
       ap (servedTimes t) is-begun
       ∙ turns-are-rounds begun (length-expanded key) refl (ap stateOf (blockOf-stateOf (readIn order block) x-lt)) t (omega arith)
       ∙ ap₂ (λ (ps : List Pair) (l : Lane). onward ps t l) (pairs-of-expanded key) (sym is-begun)
 
   -- from the first turn on: 5t rounds done, or the rounds 40 down to 41 − 5t undone, on the block that the lane's order sees
-  pub reached-from-the-start : (t : ℕ) → t ≤ 8 → reached direction (pairsOf key) 0 t (blockOf (fresh .state))
+  pub reached-from-the-start : (t : ℕ) → t ≤ 8 → reached direction (pairsOf key) 0 t (blockOf (opened owner direction order key block .state))
       ≡ cond (eqb direction 0) (rounds128 (take (5 * t) (pairsOf key)) 0 (readIn order block)) (unrounds128 (drop (40 - 5 * t) (pairsOf key)) (40 - 5 * t) (readIn order block))
   unfolding reached
   reached-from-the-start t h =
@@ -208,9 +206,10 @@ module _ (owner direction order : ℕ) (key block : List ℕ) (x-lt : readIn ord
       rest : (t : ℕ) → t ≤ 8 → length (drop (40 - 5 * t) (pairsOf key)) ≤ 5 * t
       rest t h = rw (length-drop, all-pairs key) (omega arith)
 
-  pub yields : writeIn order (blockOf (onward (pairsOf key) 8 fresh .state)) ≡ answer direction order key block
+  pub yields : writeIn order (blockOf (onward (pairsOf key) 8 (opened owner direction order key block) .state)) ≡ answer direction order key block
   unfolding onward answer opened
   yields =
+      let fresh : Lane = opened owner direction order key block in
       ap (writeIn order) (blockOf-stateOf _ (reached-lt direction (pairsOf key) 0 8 (blockOf (fresh .state)) (blockOf-lt (fresh .state))) ∙ reached-from-the-start 8 (omega arith)) ∙ go (eqb direction 0)
     where
       whole : take 40 (pairsOf key) ≡ pairsOf key

@@ -14,10 +14,8 @@ use Rattle.answers.specs.Numbers.{DONE, BAD_KEY_LENGTH, BAD_BLOCK_LENGTH, BAD_S
 use Rattle.answers.specs.Order.{unless, ifDone}
 use Rattle.answers.proofs.Passed.{passed}
 use Rattle.answers.proofs.Outcome.{if-done, if-refused}
-use Rattle.published.specs.Bytes.{readBlock, writeBlock}
-use Rattle.published.specs.Rounds.{Pair}
 use Rattle.published.specs.Calls.{blockCode, keyCode}
-use Rattle.published.specs.Gift128.{rounds128, encrypted}
+use Rattle.published.specs.Gift128.{encrypted}
 use Rattle.key_schedule.specs.Expand.{expandCode, expanded}
 use Rattle.gift128.specs.Calls.{encryptedBy}
 use Rattle.gift128.proofs.Blocks.{crossed-key}

@@ -2,10 +2,11 @@
 use mathlib.Core.Bool.{Bool}
 use mathlib.Core.List.{List}
 use Prim.Native.Nat.{ℕ}
+use lib.ListN.{replicate}
 use Rattle.answers.specs.Outcome.{OneOutcome}
 use Rattle.answers.proofs.Outcome.{one-outcome}
 use Rattle.key_schedule.specs.Expand.{Expands}
-use Rattle.gift128.specs.Calls.{CiphersByKeyIn, CiphersByWordsIn, CiphersBlocksIn, MakesOneRound, MakesCipher, CiphersBlockIn}
+use Rattle.gift128.specs.Calls.{CiphersByKeyIn, CiphersByWordsIn, CiphersBlocksIn, MakesOneRound, CiphersBlockIn}
 
 module _ (back : Bool) (order : ℕ) (key words block input output : List ℕ) where
   pub precompute-rkeys : OneOutcome (Expands key words)
@@ -23,7 +24,7 @@ module _ (back : Bool) (order : ℕ) (key words block input output : List ℕ) w
   pub one-round : OneOutcome (MakesOneRound key block)
   one-round = one-outcome _ _ _
 
-  pub new : OneOutcome (MakesCipher key)
+  pub new : OneOutcome (Expands key (replicate 80 0))
   new = one-outcome _ _ _
 
   pub block-by-its-own : OneOutcome (CiphersBlockIn back order words block)

@@ -5,7 +5,7 @@ use mathlib.Core.List.{List}
 use Prim.Native.Nat.{ℕ}
 use lib.ListN.{length}
 use Rattle.answers.specs.Outcome.{Gives}
-use Rattle.published.specs.Bytes.{readBlock, writeBlock}
+use Rattle.published.specs.Bytes.{fromBytes, toBytes}
 use Rattle.published.specs.Gift128.{encrypted, decrypted}
 use Rattle.published.specs.Calls.{blockCode, manyCode, CiphersByKey}
 use Rattle.gift128.specs.Calls.{orderCode, wordsCode, roundsBy, encryptedBy, allBlocks}
@@ -18,7 +18,7 @@ module _ (key words block input output : List ℕ) where
   by-key false = refl
   by-key true = refl
 
-  pub by-words : (back : Bool) → CiphersByWordsIn back 0 words block ≡ Gives (wordsCode (length words) (length block)) (writeBlock (roundsBy back words (readBlock block))) block
+  pub by-words : (back : Bool) → CiphersByWordsIn back 0 words block ≡ Gives (wordsCode (length words) (length block)) (toBytes 16 (roundsBy back words (fromBytes block))) block
   unfolding orderCode
   by-words back = refl
 
@@ -27,7 +27,7 @@ module _ (key words block input output : List ℕ) where
   blocks false = refl
   blocks true = refl
 
-  pub block-by-its-own : (back : Bool) → CiphersBlockIn back 0 words block ≡ Gives (blockCode (length block)) (writeBlock (roundsBy back words (readBlock block))) block
+  pub block-by-its-own : (back : Bool) → CiphersBlockIn back 0 words block ≡ Gives (blockCode (length block)) (toBytes 16 (roundsBy back words (fromBytes block))) block
   unfolding orderCode
   block-by-its-own back = refl
 

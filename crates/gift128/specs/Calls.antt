@@ -7,14 +7,14 @@ use lib.ListN.{length, take, replicate}
 use Rattle.answers.specs.Numbers.{BAD_WORD_COUNT, BAD_ORDER}
 use Rattle.answers.specs.Order.{unless, ifDone}
 use Rattle.answers.specs.Outcome.{Gives}
-use Rattle.published.specs.Bytes.{readBlock, writeBlock}
+use Rattle.published.specs.Bytes.{fromBytes, toBytes}
 use Rattle.published.specs.Seen.{isOrder, seen}
 use Rattle.published.specs.Rounds.{Pair}
 use Rattle.published.specs.Gift128.{pairsOf, rounds128, unrounds128}
 use Rattle.published.specs.Calls.{blockCode, keyCode, manyCode}
 use Rattle.published.specs.Blocks.{allOf}
 use Rattle.round_words.specs.Arranged.{pairsFrom}
-use Rattle.key_schedule.specs.Expand.{expandCode, expanded, Expands}
+use Rattle.key_schedule.specs.Expand.{expandCode, expanded}
 
 -- ---- the numbers, by the order's number and the lengths of what is lent
 
@@ -28,7 +28,7 @@ wordsCode words block = unless (eqb words 80) BAD_WORD_COUNT (blockCode block)
 
 -- ---- what a call that is done leaves
 
--- the forty rounds, done or undone, of a list of pairs; of eighty round words, whatever they are, those that they stand for; of a key, its own
+-- the forty rounds, done or undone, of a list of pairs; of eighty round words, whatever they are, those that they stand for
 abbrev pub roundsAll : Bool → List Pair → ℕ → ℕ
 roundsAll false ps = rounds128 ps 0
 roundsAll true ps = unrounds128 ps 0
@@ -36,16 +36,13 @@ roundsAll true ps = unrounds128 ps 0
 abbrev pub roundsBy : (back : Bool) (words : List ℕ) → ℕ → ℕ
 roundsBy back words = roundsAll back (pairsFrom 0 words)
 
-abbrev pub roundsOf : (back : Bool) (key : List ℕ) → ℕ → ℕ
-roundsOf back key = roundsAll back (pairsOf key)
-
 -- a block encrypted by eighty round words in order 0
 unfoldable pub encryptedBy : List ℕ → List ℕ → List ℕ
-encryptedBy ws block = writeBlock (rounds128 (pairsFrom 0 ws) 0 (readBlock block))
+encryptedBy ws block = toBytes 16 (rounds128 (pairsFrom 0 ws) 0 (fromBytes block))
 
 -- the state after round 1
 unfoldable pub afterOne : List ℕ → List ℕ → List ℕ
-afterOne key block = writeBlock (rounds128 (take 1 (pairsOf key)) 0 (readBlock block))
+afterOne key block = toBytes 16 (rounds128 (take 1 (pairsOf key)) 0 (fromBytes block))
 
 -- all the blocks of sixteen bytes, block i of the answer from block i of the input
 abbrev pub allBlocks : (List ℕ → List ℕ) → List ℕ → List ℕ
@@ -55,7 +52,7 @@ allBlocks = allOf 16
 
 -- one block by a key, and by round words
 abbrev pub CiphersByKeyIn : (back : Bool) (order : ℕ) (key block : List ℕ) → ℕ → List ℕ → Type 0
-CiphersByKeyIn back order key block = Gives (orderCode order (keyCode (length key) (length block))) (seen order (roundsOf back key) block) block
+CiphersByKeyIn back order key block = Gives (orderCode order (keyCode (length key) (length block))) (seen order (roundsAll back (pairsOf key)) block) block
 
 abbrev pub CiphersByWordsIn : (back : Bool) (order : ℕ) (words block : List ℕ) → ℕ → List ℕ → Type 0
 CiphersByWordsIn back order words block = Gives (orderCode order (wordsCode (length words) (length block))) (seen order (roundsBy back words) block) block
@@ -63,15 +60,12 @@ CiphersByWordsIn back order words block = Gives (orderCode order (wordsCode (len
 -- many blocks by a key
 abbrev pub CiphersBlocksIn : (back : Bool) (order : ℕ) (key input output : List ℕ) → ℕ → List ℕ → Type 0
 CiphersBlocksIn back order key input output =
-    Gives (orderCode order (manyCode 16 (length key) (length input) (length output))) (allBlocks (seen order (roundsOf back key)) input) output
+    Gives (orderCode order (manyCode 16 (length key) (length input) (length output))) (allBlocks (seen order (roundsAll back (pairsOf key))) input) output
 
 abbrev pub MakesOneRound : (key block : List ℕ) → ℕ → List ℕ → Type 0
 MakesOneRound key block = Gives (keyCode (length key) (length block)) (afterOne key block) block
 
--- a `Gift128`: made from a key, the number and its words, as expansion into eighty zeros has them; and a block by the words that it keeps
-abbrev pub MakesCipher : (key : List ℕ) → ℕ → List ℕ → Type 0
-MakesCipher key = Expands key (replicate 80 0)
-
+-- a block by the words that a `Gift128` keeps (making one promises what expansion into eighty zeros does: `Expands`)
 abbrev pub CiphersBlockIn : (back : Bool) (order : ℕ) (words block : List ℕ) → ℕ → List ℕ → Type 0
 CiphersBlockIn back order words block = Gives (orderCode order (blockCode (length block))) (seen order (roundsBy back words) block) block
 

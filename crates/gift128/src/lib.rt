@@ -17,15 +17,16 @@ use quintuple::quintuple_round;
 ghost use mathlib.Core.Path.{_≡_};
 ghost use mathlib.Core.Bool.{true, false};
 ghost use Prim.Native.Nat.{_%_};
-ghost use lib.ListN.{length};
+ghost use lib.ListN.{length, replicate};
 ghost use denote.Ref.{now};
 ghost use Rattle.published.specs.Gift128.{rounds128, unrounds128};
 ghost use Rattle.published.specs.Seen.{isOrder, seen};
 ghost use Rattle.primitives.specs.Packed.{blockOf, stateOf};
 ghost use Rattle.round_words.specs.Arranged.{pairsFrom};
+ghost use Rattle.key_schedule.specs.Expand.{Expands};
 ghost use Rattle.gift128.specs.Calls.{roundsBy, allBlocks};
 ghost use Rattle.gift128.specs.Calls.{CiphersByKeyIn, CiphersByWordsIn, CiphersBlocksIn};
-ghost use Rattle.gift128.specs.Calls.{MakesOneRound, MakesCipher, CiphersBlockIn};
+ghost use Rattle.gift128.specs.Calls.{MakesOneRound, CiphersBlockIn};
 
 // A cipher instance: its eighty round words. One made from a refused key has eighty zero words, which are those of the all-zero key.
 #[repr(C)]
@@ -49,7 +50,7 @@ impl Gift128 {
 
     // Refusal: 1.
     pub fn new(key: &[u8]) -> Made
-        ensures { λ r. ⌜ MakesCipher (now (key .entry)) (r .code) (r .cipher .k) ⌝ }
+        ensures { λ r. ⌜ Expands (now (key .entry)) (replicate 80 0) (r .code) (r .cipher .k) ⌝ }
     {
         let mut k = [0u32; 80];
         let code = precompute_rkeys(key, &mut k);

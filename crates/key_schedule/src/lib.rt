@@ -13,7 +13,6 @@ ghost use mathlib.Core.Path.{_≡_};
 ghost use lib.ListN.{length};
 ghost use Rattle.published.specs.Bytes.{fromBytes};
 ghost use Rattle.primitives.specs.Words.{permuted};
-ghost use Rattle.round_words.specs.Arranged.{arranged};
 ghost use Rattle.key_schedule.specs.Expand.{expandCode, expanded, Expands};
 ghost use Rattle.key_schedule.specs.InnerUpdate.{updated, later, tripled};
 ghost use Rattle.key_schedule.specs.InnerTens.{firstWords, keyWords, fiveRounds, fiveLater, tenLater, wordsOf, tenOf, grown};
