@@ -10,14 +10,14 @@ use Rattle.answers.specs.Numbers.{DONE, BAD_KEY_LENGTH, BAD_BLOCK_LENGTH, BAD_L
 use Rattle.answers.specs.Order.{unless}
 use Rattle.published.specs.Bytes.{fromBytes, toBytes, Bytes}
 use Rattle.published.specs.Seen.{seen}
+use Rattle.published.specs.Rounds.{Pair}
 use Rattle.published.specs.Gift128.{pairsOf, rounds128, unrounds128, encrypted, decrypted}
 use Rattle.published.proofs.Gift128.{block-lt}
 use Rattle.published.proofs.Seen.{inward, outward, permuted, order-1-by-0}
 use Rattle.primitives.specs.declared.State.{State}
 use Rattle.primitives.specs.Packed.{blockOf, stateOf}
 use Rattle.packing.specs.Packing.{noWords, packed, unpacked}
-use Rattle.round_words.specs.Arranged.{pairsFrom}
-use Rattle.gift128.specs.Calls.{newWords, roundsBy, roundsAll}
+use Rattle.gift128.specs.Calls.{newWords, roundsAll}
 use Rattle.gift128.proofs.RoundTrip.{rounds-all-lt}
 use Rattle.lane.specs.declared.Lane.{Lane}
 use Rattle.lane.specs.Record.{idle, running, opened, yielded}
@@ -79,18 +79,17 @@ answer-0 direction key block = refl
 
 -- ---- order 1 by order 0: the block permuted by one fixed permutation of bits, and what comes of it permuted back
 
-module _ (key words block : List ℕ) (len : length block ≡ 16) (h : Bytes block) where
-  pub by-key-1 : (back : Bool) → seen 1 (roundsAll back (pairsOf key)) block ≡ permuted outward (seen 0 (roundsAll back (pairsOf key)) (permuted inward block))
-  by-key-1 back = order-1-by-0 (roundsAll back (pairsOf key)) (rounds-all-lt back (pairsOf key)) block len h
+module _ (block : List ℕ) (len : length block ≡ 16) (h : Bytes block) where
+  -- by any pairs: a key's, and those that eighty words stand for
+  pub by-pairs-1 : (back : Bool) (ps : List Pair) → seen 1 (roundsAll back ps) block ≡ permuted outward (seen 0 (roundsAll back ps) (permuted inward block))
+  by-pairs-1 back ps = order-1-by-0 (roundsAll back ps) (rounds-all-lt back ps) block len h
 
-  pub by-words-1 : (back : Bool) → seen 1 (roundsBy back words) block ≡ permuted outward (seen 0 (roundsBy back words) (permuted inward block))
-  by-words-1 back = order-1-by-0 (roundsBy back words) (rounds-all-lt back (pairsFrom 0 words)) block len h
-
-  pub answer-1 : (direction : ℕ) → answer direction 1 key block ≡ permuted outward (answer direction 0 key (permuted inward block))
+  pub answer-1 : (direction : ℕ) (key : List ℕ) → answer direction 1 key block ≡ permuted outward (answer direction 0 key (permuted inward block))
   unfolding answer
-  answer-1 direction = go (eqb direction 0)
+  answer-1 direction key = go (eqb direction 0)
     where
       go : (t : Bool) → cond t (seen 1 (roundsAll false (pairsOf key)) block) (seen 1 (roundsAll true (pairsOf key)) block)
-          ≡ permuted outward (cond t (seen 0 (roundsAll false (pairsOf key)) (permuted inward block)) (seen 0 (roundsAll true (pairsOf key)) (permuted inward block)))
-      go true = by-key-1 false
-      go false = by-key-1 true
+          ≡ permuted outward
+          (cond t (seen 0 (roundsAll false (pairsOf key)) (permuted inward block)) (seen 0 (roundsAll true (pairsOf key)) (permuted inward block)))
+      go true = by-pairs-1 false (pairsOf key)
+      go false = by-pairs-1 true (pairsOf key)
