@@ -28,15 +28,28 @@ fn main() -> Result<(), Refusal> {
     assert_eq!(first_wrong(words.words(), &letters), Ok(None));
     let mut wrong = *words.words();
     wrong[8] ^= 1;
-    println!("one bit of word 8 wrong: round {}", first_wrong(&wrong, &letters)?.unwrap() + 1);
-    assert_eq!(first_wrong(&wrong[1..], &letters), Err(Refusal::BadWordCount));
+    println!(
+        "one bit of word 8 wrong: round {}",
+        first_wrong(&wrong, &letters)?.unwrap() + 1
+    );
+    assert_eq!(
+        first_wrong(&wrong[1..], &letters),
+        Err(Refusal::BadWordCount)
+    );
 
     // a block by the words, and by a lane whose record the host fills itself
     let mut block = *b"a setting's text";
     words.encrypt_block(Order::Words, &mut block);
     let one = Owner::new(1).unwrap();
     let mut bench = Bench::new();
-    bench.open_in(Order::Words, 3, one, Direction::Encrypt, &key, b"a setting's text")?;
+    bench.open_in(
+        Order::Words,
+        3,
+        one,
+        Direction::Encrypt,
+        &key,
+        b"a setting's text",
+    )?;
     let mut records = *bench.records();
     records[3].words = *words.words();
     let mut bench = Bench::from_records(records, bench.last_served());

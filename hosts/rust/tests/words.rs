@@ -30,7 +30,8 @@ fn rounds(pairs: &[Pair], mut x: u128) -> u128 {
         x = (0..128).fold(1 << 127, |y, i| y ^ (boxed >> i & 1) << moved(i));
         c = c << 1 & 0x3f | (c >> 5 ^ c >> 4 ^ 1) & 1;
         for i in 0..32 {
-            x ^= u128::from(pair.u >> i & 1) << (4 * i + 2) ^ u128::from(pair.v >> i & 1) << (4 * i + 1);
+            x ^= u128::from(pair.u >> i & 1) << (4 * i + 2)
+                ^ u128::from(pair.v >> i & 1) << (4 * i + 1);
         }
         for i in 0..6 {
             x ^= u128::from(c >> i & 1) << (4 * i + 3);
@@ -51,7 +52,10 @@ fn facts_of_document_01() {
         assert_eq!(pairs[round - 1], Pair { u, v });
     }
     assert_eq!(RoundWords::of_pairs(&pairs), RoundWords::of_key(&KEY));
-    assert_eq!(format!("{:?}", RoundWords::of_key(&KEY)), "RoundWords { ... }");
+    assert_eq!(
+        format!("{:?}", RoundWords::of_key(&KEY)),
+        "RoundWords { ... }"
+    );
 }
 
 #[test]
@@ -84,13 +88,18 @@ fn rounds_by_the_pairs() {
         let before: [u8; 16] = core::array::from_fn(|_| numbers.next() as u8);
         let mut block = before;
         words.encrypt_block(Order::Number, &mut block);
-        assert_eq!(block, rounds(&pairs, u128::from_be_bytes(before)).to_be_bytes());
+        assert_eq!(
+            block,
+            rounds(&pairs, u128::from_be_bytes(before)).to_be_bytes()
+        );
 
         // and by a record of the host's own making, in either order and direction
         let order = [Order::Number, Order::Words][n % 2];
         let direction = [Direction::Encrypt, Direction::Decrypt][n / 2 % 2];
         let (one, mut bench) = (Owner::new(9).unwrap(), Bench::new());
-        bench.open_in(order, 11, one, direction, &KEY, &before).unwrap();
+        bench
+            .open_in(order, 11, one, direction, &KEY, &before)
+            .unwrap();
         let mut records: [Lane; 16] = *bench.records();
         records[11].words = *words.words();
         let mut bench = Bench::from_records(records, bench.last_served());
@@ -136,5 +145,8 @@ fn refusals() {
         }
     }
     assert_eq!(RoundWords::from_slice(&[0; 79]), Err(BadWordCount));
-    assert_eq!(RoundWords::from_slice(&[0; 80]), Ok(RoundWords::of_key(&[0; 16])));
+    assert_eq!(
+        RoundWords::from_slice(&[0; 80]),
+        Ok(RoundWords::of_key(&[0; 16]))
+    );
 }
