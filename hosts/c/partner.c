@@ -34,10 +34,11 @@ static void show(const char *what, const uint8_t *bytes)
 
 int main(void)
 {
-    uint8_t key[GIFT_KEY_SIZE], block[GIFT_BLOCK_SIZE], by_words[GIFT_BLOCK_SIZE], by_lane[GIFT_BLOCK_SIZE];
+    uint8_t key[GIFT_KEY_SIZE], block[GIFT_BLOCK_SIZE], by_words[GIFT_BLOCK_SIZE], by_lane[GIFT_BLOCK_SIZE], secret[GIFT_BLOCK_SIZE];
     uint32_t words[GIFT_WORDS], pairs[GIFT_WORDS], letters[GIFT_WORDS];
     gift_lane lanes[GIFT_LANES];
     gift_turns told;
+    int same;
 
     /* a key's words in the paper's letters */
     for (unsigned i = 0; i < GIFT_KEY_SIZE; i++)
@@ -60,6 +61,7 @@ int main(void)
     memcpy(by_words, block, sizeof block);
     must("gift_encrypt_by_words", gift_encrypt_by_words(GIFT_ORDER_WORDS, words, GIFT_WORDS, by_words, sizeof by_words));
     show("by its words", by_words);
+    memcpy(secret, by_words, sizeof secret);
     memset(lanes, 0, sizeof lanes);
     must("gift_open_lane", gift_open_lane(lanes, GIFT_LANES, GIFT_FRESH_LAST, 3, 1, GIFT_ENCRYPT, GIFT_ORDER_WORDS, key, sizeof key, block, sizeof block));
     memcpy(lanes[3].words, words, sizeof words);
@@ -69,5 +71,7 @@ int main(void)
     show("by a lane with them", by_lane);
     must("gift_decrypt_by_words", gift_decrypt_by_words(GIFT_ORDER_WORDS, words, GIFT_WORDS, by_words, sizeof by_words));
     show("undone", by_words);
-    return !are_the_papers(words, letters) || memcmp(by_words, block, sizeof block) != 0;
+    same = are_the_papers(words, letters) && memcmp(secret, by_lane, sizeof secret) == 0 && memcmp(by_words, block, sizeof block) == 0;
+    printf("a block by the partner's words and by a lane with them: %s\n", same ? "the same, there and back" : "different");
+    return !same;
 }
