@@ -109,8 +109,8 @@ module _ (ws : List ℕ) (eighty : length ws ≡ 80) where
 pub reached-lt : (direction : ℕ) (ps : List Pair) (c t x : ℕ) → x < 2 ^ 128 → reached direction ps c t x < 2 ^ 128
 unfolding reached
 reached-lt direction ps c t x h =
-    cond-either (λ (y : ℕ). y < 2 ^ 128) (eqb direction 0) _ _ (λ e. rounds-lt 128 1 width128 (take (5 * t) (drop (5 * c) ps)) (5 * c) x h)
-    (λ e. unrounds-lt 128 1 width128 (take (5 * t) (drop (40 - 5 * (c + t)) ps)) (40 - 5 * (c + t)) x h)
+    cond-either (λ (y : ℕ). y < 2 ^ 128) (eqb direction 0) _ _ (λ e. rounds-lt 128 1 width128 _ _ x h)
+    (λ e. unrounds-lt 128 1 width128 _ _ x h)
 
 module _ (l : Lane) (eighty : length (l .words) ≡ 80) where
   advance : (t : ℕ) → l .count + t < 8
