@@ -49,7 +49,7 @@ uint32_t gift_host_edition(void);
 #define GIFT_BAD_KEY_LENGTH 1    /* the key is not of 16 bytes */
 #define GIFT_BAD_BLOCK_LENGTH 2  /* a block, take buffer or tag is not of 16 bytes, or a nonce not of 12; many blocks: input not a multiple of 16; GIFT-64: 8 */
 #define GIFT_BAD_OUTPUT_LENGTH 3 /* the output is not as long as the input */
-#define GIFT_BAD_WORD_COUNT 4    /* the round words are not 80 */
+#define GIFT_BAD_WORD_COUNT 4    /* the round words, or the numbers of pairs, are not 80 */
 #define GIFT_BAD_LANE 5          /* a lane number above 15 */
 #define GIFT_LANE_NOT_IDLE 6     /* opening a lane that is not idle */
 #define GIFT_LANE_NOT_FINISHED 7 /* taking from a lane that is not finished */
@@ -91,6 +91,14 @@ uint32_t gift_decrypt_by_words(uint32_t order, const uint32_t *words, size_t wor
 
 /* Fills words with the 80 round words of a key. Refusals: 1, 4. */
 uint32_t gift_expand(const uint8_t *key, size_t key_len, uint32_t *words, size_t words_len);
+
+/* Looks at round words in the GIFT paper's letters, and makes words of such letters: V of round 1, U of round 1, V of round 2, .. U of round 40, eighty
+ * numbers. gift_pairs fills pairs with what 80 words stand for, gift_words fills words with those that stand for 80 such numbers: each undoes the other,
+ * for any numbers at all, so every 80 words stand for exactly one list of pairs. The calls by words and a lane that holds them do the paper's rounds with
+ * these pairs. Of the words of a key the pairs are the key's. Whoever makes its own words can hold them so to the paper.
+ * Refusals: 4 if what is given (words; for gift_words pairs) is not 80 numbers, 3 if what is to be filled is not as long. */
+uint32_t gift_pairs(const uint32_t *words, size_t words_len, uint32_t *pairs, size_t pairs_len);
+uint32_t gift_words(const uint32_t *pairs, size_t pairs_len, uint32_t *words, size_t words_len);
 
 /* ---- many blocks, from one buffer to another ---- */
 

@@ -18,22 +18,54 @@ def right(word, n):
     return (word >> n | word << 16 - n) % 2 ** 16
 
 
-def rounds_of(key):
-    """What each round xors to the block: the bits of U and V, b127 and the constant."""
+def pairs_of(key):
+    """V and U of each round, in a row of eighty numbers."""
     k = [int.from_bytes(key[14 - 2 * i:16 - 2 * i], "big") for i in range(8)]
+    row = []
+    for _ in range(40):
+        row += [k[1] << 16 | k[0], k[5] << 16 | k[4]]
+        k = k[2:] + [right(k[0], 12), right(k[1], 2)]
+    return row
+
+
+def masks_of(row):
+    """What each round xors to the block, by V and U of each in a row: their bits, b127 and the constant."""
     c = 0
     masks = []
-    for _ in range(40):
+    for v, u in zip(row[::2], row[1::2]):
         c = c << 1 & 0x3F | bit(c, 5) ^ bit(c, 4) ^ 1
-        u, v = k[5] << 16 | k[4], k[1] << 16 | k[0]
         mask = 1 << 127
         for i in range(32):
             mask ^= bit(u, i) << 4 * i + 2 ^ bit(v, i) << 4 * i + 1
         for i in range(6):
             mask ^= bit(c, i) << 4 * i + 3
         masks.append(mask)
-        k = k[2:] + [right(k[0], 12), right(k[1], 2)]
     return masks
+
+
+def rounds_of(key):
+    return masks_of(pairs_of(key))
+
+
+# ---- any eighty words
+
+def arranged(k, word):
+    """A word as it is kept k rounds into a quintuple: its bit i is that of the place which bit 3 of nibble i reaches in k rounds."""
+    def place(i):
+        for _ in range(k):
+            i = moved(4 * i + 3) // 4
+        return i
+    return sum(bit(word, place(i)) << i for i in range(32))
+
+
+def words_of(row):
+    """The eighty words that stand for the pairs of a row: word i is used in round i // 2 + 1, which is round i // 2 % 5 + 1 of its quintuple."""
+    return [arranged(i // 2 % 5 + 1, x) for i, x in enumerate(row)]
+
+
+def row_of(words):
+    """The pairs that eighty words stand for: what is kept k rounds in is itself again after 5 - k more."""
+    return [arranged(4 - i // 2 % 5, w) for i, w in enumerate(words)]
 
 
 def round_done(x, mask):
@@ -94,6 +126,9 @@ def checked():
     vectors = """00000000000000000000000000000000 00000000000000000000000000000000 cd0bd738388ad3f668b15a36ceb6ff92
         fedcba9876543210fedcba9876543210 fedcba9876543210fedcba9876543210 8422241a6dbf5a9346af468409ee0152
         d0f5c59a7700d3e799028fa9f90ad837 e39c141fa57dba43f08a85b6a91f86c1 13ede67cbdcc3dbf400a62d6977265ea"""
+    counted = bytes(range(16))
+    assert pairs_of(counted)[:6] == [0x0c0d0e0f, 0x04050607, 0x08090a0b, 0x00010203, 0x04050607, 0x4303e0f0]
+    assert row_of(words_of(pairs_of(counted))) == pairs_of(counted) and words_of(row_of(pairs_of(counted))) == pairs_of(counted)
     for line in vectors.splitlines():
         key, plain, secret = (bytes.fromhex(x) for x in line.split())
         assert encrypted(key, plain) == secret and decrypted(key, secret) == plain

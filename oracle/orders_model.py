@@ -9,7 +9,7 @@ README.md beside this file says how a case is written.
 import random
 import sys
 
-from cipher_model import bit, block, decrypted, done, encrypted, moved, number, packed, rounds_of, undone
+from cipher_model import bit, block, decrypted, done, encrypted, masks_of, number, packed, row_of, undone
 from stored import store
 
 FIRST = "# Block calls in both orders, made by 'oracle/orders_model.py --store' from document 02."
@@ -38,27 +38,6 @@ TAG = bytes.fromhex("368965836d36614de2fc24d0f801b9af")
 COUNTED = bytes(range(16))
 KNOWN = cofb(COUNTED, COUNTED)
 assert KNOWN[1][1] == TAG
-
-
-# ---- any eighty words
-
-def stands(k, word):
-    """The word that a word kept k rounds into a quintuple stands for: its bit i is that of the place which bit 3 of nibble i reaches in 5 - k rounds."""
-    def place(i):
-        for _ in range(5 - k):
-            i = moved(4 * i + 3) // 4
-        return i
-    return sum(bit(word, place(i)) << i for i in range(32))
-
-
-def masks_by(words):
-    """What each round xors to the block, the pairs being those that the words stand for: the constants and b127 are as a key of zeros has them."""
-    masks = rounds_of(bytes(16))
-    for r in range(40):
-        v, u = (stands(r % 5 + 1, w) for w in words[2 * r:2 * r + 2])
-        for i in range(32):
-            masks[r] ^= bit(u, i) << 4 * i + 2 ^ bit(v, i) << 4 * i + 1
-    return masks
 
 
 # ---- cases
@@ -117,7 +96,7 @@ class Cases:
         self.heading("one block by eighty words")
         for n in range(count):
             order, words, plain = n % 2, self.words(), self.some(16)
-            masks = masks_by(words)
+            masks = masks_of(row_of(words))
             secret = block(done(number(plain, order), masks), order)
             assert block(undone(number(secret, order), masks), order) == plain
             self.write("encrypt_by_words", order=order, words=words, lent=plain, number=0, left=secret)

@@ -1,5 +1,5 @@
 /* A random walk of 100,000 calls over everything that the library exports, with good and bad arguments and with guests that steal, and after it every bit
- * of an idle record set alone, then one of CMAC, one of streams and one of GIFT-64. Each call is held to model.h: the number given back, every byte, word and record lent, and every byte round them, so that a record is looked
+ * of an idle record set alone, then one of CMAC, one of streams, one of GIFT-64 and one of round words and pairs. Each call is held to model.h: the number given back, every byte, word and record lent, and every byte round them, so that a record is looked
  * at byte by byte after each take and close. The same calls on each run. Exit status 1 if anything differs. */
 #include <stdio.h>
 #include <string.h>
@@ -10,6 +10,7 @@
 #define MAC_CALLS 20000 /* of CMAC, after those */
 #define STREAM_CALLS 20000 /* of streams, after those */
 #define GIFT64_CALLS 20000 /* of GIFT-64, after those */
+#define ROW_CALLS 10000 /* of round words and pairs, after those */
 #define RECORDS (LANES + 2) /* of which the first are a bench */
 
 /* The header's names are document 01's numbers. */
@@ -126,7 +127,7 @@ static uint8_t *expected(room *r)
 enum {
     ENCRYPT_BY_KEY, DECRYPT_BY_KEY, ENCRYPT_BY_WORDS, DECRYPT_BY_WORDS, EXPAND, ENCRYPT_BLOCKS,
     DECRYPT_BLOCKS, OPEN_LANE, TURN, TAKE, CLOSE, MAC, MAC_CHECK, MAC_START, MAC_PIECE, MAC_TAG,
-    STREAM_START, STREAM_PIECE, ENCRYPT_64, DECRYPT_64, ENCRYPT_BLOCKS_64, DECRYPT_BLOCKS_64,
+    STREAM_START, STREAM_PIECE, ENCRYPT_64, DECRYPT_64, ENCRYPT_BLOCKS_64, DECRYPT_BLOCKS_64, PAIRS, WORDS_OF,
     PLAIN_ENCRYPT, PLAIN_DECRYPT, PLAIN_ENCRYPT_64, PLAIN_DECRYPT_64, KINDS
 };
 
@@ -135,7 +136,7 @@ static const char *const names[KINDS] = {
     "gift_decrypt_blocks", "gift_open_lane", "gift_turn", "gift_take", "gift_close",
     "gift_mac", "gift_mac_check", "gift_mac_start", "gift_mac_piece", "gift_mac_tag",
     "gift_stream_start", "gift_stream_piece",
-    "gift64_encrypt_by_key", "gift64_decrypt_by_key", "gift64_encrypt_blocks", "gift64_decrypt_blocks",
+    "gift64_encrypt_by_key", "gift64_decrypt_by_key", "gift64_encrypt_blocks", "gift64_decrypt_blocks", "gift_pairs", "gift_words",
     "gift_plain_encrypt_by_key", "gift_plain_decrypt_by_key", "gift64_plain_encrypt_by_key", "gift64_plain_decrypt_by_key",
 };
 
@@ -748,6 +749,32 @@ static unsigned known_64(void)
     return count;
 }
 
+/* ---- round words and pairs ---- */
+
+static unsigned same_again;
+
+/* Each way; and what one call made, the other makes what it was of. */
+static void rows(unsigned back)
+{
+    uint32_t number, must, from[80], made[80];
+    lend(&words, back ? "words" : "pairs", length(80), 4);
+    lend(&outputs, back ? "pairs" : "words", length(80), 4);
+    must = row_number(words.length, outputs.length);
+    if (must == 0) {
+        memcpy(from, expected(&words), sizeof from);
+        (back ? model_pairs : model_words)(from, made);
+        memcpy(expected(&outputs), made, sizeof made);
+    }
+    number = (back ? gift_pairs : gift_words)(part(&words), words.length, part(&outputs), outputs.length);
+    hold(back ? PAIRS : WORDS_OF, number, must);
+    if (must == 0) {
+        number = (back ? gift_words : gift_pairs)(part(&outputs), 80, made, 80);
+        if ((number != 0 || memcmp(made, from, sizeof made) != 0) && differs(back ? WORDS_OF : PAIRS))
+            printf("it does not make what it was of\n");
+        same_again++;
+    }
+}
+
 int main(void)
 {
     if (gift_host_edition() != GIFT_HOST_EDITION) {
@@ -793,6 +820,10 @@ int main(void)
         else
             many_64(kind % 2);
     }
+    for (unsigned end = calls + ROW_CALLS; calls < end;) {
+        mischief = below(8) < 5 ? 0 : below(4) ? 2 : 5;
+        rows(below(2));
+    }
 
     printf("%-22s", "number given back:");
     for (unsigned number = 0; number < NUMBERS; number++)
@@ -815,6 +846,7 @@ int main(void)
            given[PLAIN_ENCRYPT_64][0] + given[PLAIN_ENCRYPT_64][1] + given[PLAIN_ENCRYPT_64][2] + given[PLAIN_DECRYPT_64][0] + given[PLAIN_DECRYPT_64][1] + given[PLAIN_DECRYPT_64][2], known_64());
     printf("%u checks said yes; %u tags of states were those of the whole message; %u stored tags\n", yeses, whole_tags, known_tags());
     printf("%u streams were the host's; %u pieces were served by one that is spent\n", forged, spent_served);
+    printf("%u rows of words or pairs were made what they were of again\n", same_again);
     printf("%u calls, %u differences\n", calls, differences);
     return differences > 0;
 }

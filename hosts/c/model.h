@@ -186,6 +186,19 @@ static void model_expand(const uint8_t *key, uint32_t *words)
     }
 }
 
+/* the pairs that words stand for, in a row, V first; and the words of such a row */
+static void model_pairs(const uint32_t *words, uint32_t *row)
+{
+    for (unsigned i = 0; i < 80; i++)
+        row[i] = stands_for(i / 2 % 5 + 1, words[i]);
+}
+
+static void model_words(const uint32_t *row, uint32_t *words)
+{
+    for (unsigned i = 0; i < 80; i++)
+        words[i] = arranged(i / 2 % 5 + 1, row[i]);
+}
+
 /* so many rounds from one on, by words; both are multiples of five */
 static void rounds_by_words(bits *x, unsigned direction, const uint32_t *words, unsigned from, unsigned count)
 {
@@ -297,6 +310,11 @@ static uint32_t words_number(size_t words_len, size_t block_len)
 static uint32_t expand_number(size_t key_len, size_t words_len)
 {
     return key_len != 16 ? 1 : words_len != 80 ? 4 : 0;
+}
+
+static uint32_t row_number(size_t given_len, size_t out_len)
+{
+    return given_len != 80 ? 4 : out_len != 80 ? 3 : 0;
 }
 
 static uint32_t many_number(size_t key_len, size_t input_len, size_t output_len)

@@ -4,6 +4,7 @@ use mathlib.Core.Bool.{Bool, true, false, cond, _&&_, not}
 use mathlib.Core.List.{List, [], _∷_, _++_}
 use mathlib.Core.Logic.{_≢_, _⊎_, inl, inr, ⊎-elim}
 use Prim.Native.Nat.{ℕ, zero, suc, _*_, _≤_, _<_}
+use native.Mathlib.Nat.{zero-add}
 use native.Mathlib.Omega.{arith}
 use lib.Dec.{leb, ltb}
 use lib.ListN.{length, take, drop, replicate, take-append-drop}
@@ -14,7 +15,10 @@ use Rattle.bits.proofs.Truth.{both, together}
 use Rattle.published.specs.Bytes.{Bytes}
 use Rattle.published.specs.Seen.{writeIn}
 use Rattle.published.proofs.Seen.{orders}
-use Rattle.primitives.specs.Packed.{blockOf}
+use Rattle.published.specs.Gift128.{pairsOf}
+use Rattle.primitives.specs.Packed.{blockOf, Words}
+use Rattle.primitives.proofs.Blocks.{blockOf-lt, blockOf-stateOf, stateOf-blockOf}
+use Rattle.round_words.specs.Arranged.{pairsFrom}
 use Rattle.lane.specs.declared.Lane.{Lane}
 use Rattle.lane.specs.Record.{idle, running, finished, idleLane, everything, allZero, soundLane, opened, advanced, served, lacks}
 use Rattle.lane.proofs.Records.{tidy, next, finished-count, sound-count, eight-finished, yielded-bytes}
@@ -24,13 +28,13 @@ use Rattle.bench.specs.Orders.{takeCode}
 use Rattle.bench.specs.Calls.{freshBench, allSound, soundBench, answered, takeOf, takenBytes}
 use Rattle.bench.proofs.Soundness.{Sound, is-sound, says-sound}
 use Rattle.bench_history.specs.History.{Call, opening, turning, taking, closing, answerTo, codeOf, leaves, run, log, times, closes, releases, never, servedTimes}
-use Rattle.bench_history.specs.Promises.{standing, owning, ordering, answer, BusyFor, ShutTo, Opening, call, calls, end, finds, left, made, own, Accepted, Unclosed, Kept, Stands, InTime, Held}
+use Rattle.bench_history.specs.Promises.{reached, onward, owning, ordering, answer, BusyFor, ShutTo, Opening, call, calls, end, finds, left, made, own, Accepted, Unclosed, Kept, Stands, InTime, Held}
 use Rattle.bench_history.proofs.Accepted.{OpenDone, opens, takes}
 use Rattle.bench_history.proofs.Touched.{sound-leaves, put-here, Touch, touch, same, entered, left as leaving, served as serving}
 use Rattle.bench_history.proofs.Belongs.{owner-admitted, shut-to, early-take}
 use Rattle.bench_history.proofs.Standing.{times-append, After, stand, turns-wake-none}
 use Rattle.bench_history.proofs.Waiting.{waits}
-use Rattle.bench_history.proofs.Quintuples.{reach, yields}
+use Rattle.bench_history.proofs.Quintuples.{reached-lt, turns-are-rounds, phase-by-count, reach, yields}
 
 -- ---- histories
 
@@ -158,14 +162,14 @@ module _ (o : Opening) (ok : Accepted o) where
         (omega (arith, stood .counted, at-most, in-time unclosed h, times-take (o .lane) (laneCount * 8) (made o)))
 
     module _ (bytes : Bytes (o .block)) where
-      here : laneAt (end o .lanes) (o .lane) ≡ standing (o .owner) (o .direction) (o .order) (o .key) (o .block) (own o)
+      here : laneAt (end o .lanes) (o .lane) ≡ onward (pairsOf (o .key)) (own o) (opened (o .owner) (o .direction) (o .order) (o .key) (o .block))
       here =
           stood .is
           ∙ reach (o .owner) (o .direction) (o .order) (o .key) (o .block) (orders (o .order) .block (o .block) (did .block-long) bytes) (did .ordered) (did .key-long) (did .block-long) (own o) at-most
 
       phase-is : laneAt (end o .lanes) (o .lane) .phase ≡ cond (leb 8 (own o)) finished running
-      unfolding standing
-      phase-is = ap (λ (l : Lane). l .phase) here
+      unfolding onward opened
+      phase-is = ap (λ (l : Lane). l .phase) here ∙ ap (λ (k : ℕ). cond (leb 8 k) finished running) (zero-add (own o))
 
       runs-early : own o < 8 → laneAt (end o .lanes) (o .lane) .phase ≡ running
       runs-early h = phase-is ∙ ap (λ (t : Bool). cond t finished running) (lt-leb 8 (own o) h)
@@ -177,9 +181,10 @@ module _ (o : Opening) (ok : Accepted o) where
             rw (says-sound (end o) end-sound, lt-ltb (o .lane) laneCount (did .lane-lt), owner-admitted (o .owner) (laneAt (end o .lanes) (o .lane)) end-busy, phase-is, h, e)
 
         ready-bytes : own o ≡ 8 → length out ≡ 16 → takenBytes (end o) (o .lane) (o .owner) out ≡ answer (o .direction) (o .order) (o .key) (o .block)
-        unfolding standing
+        unfolding onward opened
         ready-bytes h e =
-            taken-bytes (o .owner) out (ready-code h e) ∙ (rw (here, h) (yields (o .owner) (o .direction) (o .order) (o .key) (o .block) (orders (o .order) .block (o .block) (did .block-long) bytes)))
+            taken-bytes (o .owner) out (ready-code h e)
+            ∙ (rw (here, h) (yields (o .owner) (o .direction) (o .order) (o .key) (o .block) (orders (o .order) .block (o .block) (did .block-long) bytes) (did .ordered) (did .key-long) (did .block-long)))
 
       -- where the lane stands, and what it yields
       pub stands : Stands o
@@ -328,6 +333,30 @@ module _ (b : Bench) (ok : soundBench b ≡ true) (n : ℕ) (cs : List Call) whe
   pub served-on : (w : ℕ) → BusyFor w (laneAt (b .lanes) n) → never (releases n w) b cs ≡ true
       → laneAt (run b cs .lanes) n ≡ servedTimes (times n (log b cs)) (laneAt (b .lanes) n)
   served-on w own kept = stand n w cs b (is-sound b ok) own kept .is
+
+  -- it stands at the rounds that its words stand for, from where it was, and yields what they make
+  module _ (hn : n < laneCount) (w : ℕ) (own : BusyFor w (laneAt (b .lanes) n)) (kept : never (releases n w) b cs ≡ true) (eighty : length (laneAt (b .lanes) n .words) ≡ 80) (fit : Words (laneAt (b .lanes) n .state)) where
+    pub served-by-its-words : laneAt (run b cs .lanes) n ≡ onward (pairsFrom 0 (laneAt (b .lanes) n .words)) (times n (log b cs)) (laneAt (b .lanes) n)
+    served-by-its-words =
+        let was : Lane = laneAt (b .lanes) n in
+        let after : After was (times n (log b cs)) (laneAt (run b cs .lanes) n) = stand n w cs b (is-sound b ok) own kept in
+        after .is
+        ∙ turns-are-rounds was eighty (phase-by-count was (is-sound b ok .each n hn) (own .busy)) (stateOf-blockOf (was .state) fit) (times n (log b cs))
+        (omega (arith, after .counted, sound-count (laneAt (run b cs .lanes) n) (run-sound cs b (is-sound b ok) .each n hn)))
+
+    pub yields-by-its-words : (out : List ℕ) → takeOf (run b cs) n w out .code ≡ DONE
+        → takenBytes (run b cs) n w out
+        ≡ writeIn (laneAt (b .lanes) n .order)
+        (reached (laneAt (b .lanes) n .direction) (pairsFrom 0 (laneAt (b .lanes) n .words)) (laneAt (b .lanes) n .count) (times n (log b cs)) (blockOf (laneAt (b .lanes) n .state)))
+    unfolding takenBytes answerTo onward
+    yields-by-its-words out e =
+        let was : Lane = laneAt (b .lanes) n in
+        let l : Lane = laneAt (run b cs .lanes) n in
+        let busy : l .phase ≢ idle = stand n w cs b (is-sound b ok) own kept .busy (own .busy) in
+        if-done _ _ out e
+        ∙ yielded-bytes l out (tidy l (run-sound cs b (is-sound b ok) .each n hn) busy .ordered) (takes (run b cs) n w out e .out-long)
+        ∙ ap (λ (m : Lane). writeIn (m .order) (blockOf (m .state))) served-by-its-words
+        ∙ ap (writeIn (was .order)) (blockOf-stateOf _ (reached-lt (was .direction) (pairsFrom 0 (was .words)) (was .count) (times n (log b cs)) (blockOf (was .state)) (blockOf-lt (was .state))))
 
   pub served-in-time : n < laneCount → never (closes n (laneAt (b .lanes) n .owner)) b cs ≡ true → laneCount * lacks (laneAt (b .lanes) n) ≤ length (log b cs)
       → lacks (laneAt (b .lanes) n) ≤ times n (take (laneCount * lacks (laneAt (b .lanes) n)) (log b cs))

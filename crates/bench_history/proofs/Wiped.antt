@@ -10,9 +10,9 @@ use lib.Seq.{set-getD, ext-getD}
 use borrow.Author.Tests.{eq-eqb}
 use Rattle.answers.specs.Numbers.{DONE}
 use Rattle.bits.proofs.Truth.{both, together, cond-either}
-use Rattle.key_schedule.specs.Expand.{expanded}
+use Rattle.key_schedule.specs.Expand.{expandCode, expanded}
 use Rattle.key_schedule.proofs.Expanded.{length-expanded}
-use Rattle.gift128.specs.Calls.{newCode, newWords}
+use Rattle.gift128.specs.Calls.{newWords}
 use Rattle.lane.specs.declared.Lane.{Lane}
 use Rattle.lane.specs.Record.{idle, idleLane, opened, served}
 use Rattle.lane.proofs.Zero.{zero-is-idle}
@@ -62,7 +62,7 @@ module _ (b : Bench) (ok : soundBench b ≡ true) (eighty : Eighty b) where
 
 new-words : (key : List ℕ) → length (newWords key) ≡ 80
 new-words key =
-    cond-either (λ (ws : List ℕ). length ws ≡ 80) (eqb (newCode (length key)) 0) (expanded key) (replicate 80 0) (λ e. length-expanded key) (λ e. refl)
+    cond-either (λ (ws : List ℕ). length ws ≡ 80) (eqb (expandCode (length key) 80) 0) (expanded key) (replicate 80 0) (λ e. length-expanded key) (λ e. refl)
 
 served-words : (l : Lane) → served l .words ≡ l .words
 unfolding served

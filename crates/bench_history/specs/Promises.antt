@@ -8,12 +8,12 @@ use Prim.Native.Nat.{ℕ, _+_, _-_, _*_, _≤_, _<_, min}
 use lib.Dec.{eqb, leb}
 use lib.ListN.{length, take, drop, replicate}
 use Rattle.answers.specs.Numbers.{DONE, BAD_BLOCK_LENGTH, LANE_NOT_FINISHED, NOT_THE_OWNER}
-use Rattle.published.specs.Seen.{readIn, seen}
+use Rattle.published.specs.Seen.{seen}
+use Rattle.published.specs.Rounds.{Pair}
 use Rattle.published.specs.Gift128.{pairsOf, rounds128, unrounds128}
-use Rattle.primitives.specs.Packed.{stateOf}
-use Rattle.key_schedule.specs.Expand.{expanded}
+use Rattle.primitives.specs.Packed.{blockOf, stateOf}
 use Rattle.lane.specs.declared.Lane.{Lane}
-use Rattle.lane.specs.Record.{idle, running, finished, lacks}
+use Rattle.lane.specs.Record.{idle, running, finished, opened, lacks}
 use Rattle.bench.specs.declared.Bench.{Bench}
 use Rattle.bench.specs.Turning.{laneCount, laneAt, total}
 use Rattle.bench.specs.Calls.{freshBench, turnOf, takeOf, takenBytes, closeOf}
@@ -21,24 +21,24 @@ use Rattle.bench_history.specs.History.{Call, opening, turning, taking, 
 
 -- ---- what a lane's record is to be
 
--- the block after t turns: 5t published rounds done, or the rounds 40 down to 41 − 5t undone, on the block that the lane's order sees
-unfoldable pub reached : (direction order : ℕ) (key block : List ℕ) → ℕ → ℕ
-reached direction order key block t =
+-- the block x after t turns from a count on, by a list of pairs: the rounds 5·count + 1 to 5·(count + t) done, or the rounds 40 − 5·count down to 41 − 5·(count + t) undone
+unfoldable pub reached : (direction : ℕ) (ps : List Pair) (count t x : ℕ) → ℕ
+reached direction ps count t x =
     cond (eqb direction 0)
-    (rounds128 (take (5 * t) (pairsOf key)) 0 (readIn order block))
-    (unrounds128 (drop (40 - 5 * t) (pairsOf key)) (40 - 5 * t) (readIn order block))
+    (rounds128 (take (5 * t) (drop (5 * count) ps)) (5 * count) x)
+    (unrounds128 (take (5 * t) (drop (40 - 5 * (count + t)) ps)) (40 - 5 * (count + t)) x)
 
--- the whole record then: running until the eighth turn, and finished with it
-unfoldable pub standing : (owner direction order : ℕ) (key block : List ℕ) → ℕ → Lane
-standing owner direction order key block t =
+-- the whole record then: running until its count is 8, and finished with it
+unfoldable pub onward : List Pair → ℕ → Lane → Lane
+onward ps t l =
     record {
-      phase = cond (leb 8 t) finished running;
-      direction = direction;
-      owner = owner;
-      count = t;
-      order = order;
-      words = expanded key;
-      state = stateOf (reached direction order key block t);
+      phase = cond (leb 8 (l .count + t)) finished running;
+      direction = l .direction;
+      owner = l .owner;
+      count = l .count + t;
+      order = l .order;
+      words = l .words;
+      state = stateOf (reached (l .direction) ps (l .count) t (blockOf (l .state)));
     }
 
 -- the same record under another owner
@@ -137,11 +137,11 @@ Belongs b cs = (n w : ℕ) → BusyFor w (laneAt (b .lanes) n) → never (releas
 
 -- ---- demand 3
 
--- Of a lane that was opened and kept: after t turns of its own it stands at 5t rounds, before the eighth a take by its owner gives 7 and no bytes,
+-- Of a lane that was opened and kept: after t turns of its own it stands at 5t rounds by its key's pairs, before the eighth a take by its owner gives 7 and no bytes,
 -- after the eighth a take by its owner gives the answer, and to any other number it is shut.
 pub record Stands (o : Opening) : Type 0 where
   pub at-most : own o ≤ 8
-  pub stands : laneAt (end o .lanes) (o .lane) ≡ standing (o .owner) (o .direction) (o .order) (o .key) (o .block) (own o)
+  pub stands : laneAt (end o .lanes) (o .lane) ≡ onward (pairsOf (o .key)) (own o) (opened (o .owner) (o .direction) (o .order) (o .key) (o .block))
   pub early : own o < 8 → Early (o .owner) (end o) (o .lane)
   pub ready : own o ≡ 8 → (out : List ℕ) → length out ≡ 16
       → (takeOf (end o) (o .lane) (o .owner) out .code ≡ DONE) × (takenBytes (end o) (o .lane) (o .owner) out ≡ answer (o .direction) (o .order) (o .key) (o .block))

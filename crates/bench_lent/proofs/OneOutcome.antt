@@ -27,26 +27,23 @@ module _ (ls : List Lane) (last lane owner direction order asked : ℕ) (key blo
   pub close : (r r′ : ℕ) (e e′ : List Lane) → Closes ls last lane owner r e → Closes ls last lane owner r′ e′ → (r ≡ r′) × (e ≡ e′)
   close r r′ e e′ = both
 
-  abbrev b : Bench
-  b = benchOf ls last
-
   -- done or refused, the number is that of the bench that came in
-  stays : (number made : ℕ) (new : Bench) → new .last ≡ last → answered number made new b .bench .last ≡ last
+  stays : (number made : ℕ) (new : Bench) → new .last ≡ last → answered number made new (benchOf ls last) .bench .last ≡ last
   unfolding answered
   stays number made new e = go (eqb number 0)
     where
-      go : (z : Bool) → cond z new b .last ≡ last
+      go : (z : Bool) → cond z new (benchOf ls last) .last ≡ last
       go true = e
       go false = refl
 
-  pub open-stays : openOf b lane owner direction order key block .bench .last ≡ last
+  pub open-stays : openOf (benchOf ls last) lane owner direction order key block .bench .last ≡ last
   unfolding openOf put
   open-stays = stays _ _ _ refl
 
-  pub take-stays : takeOf b lane owner out .bench .last ≡ last
+  pub take-stays : takeOf (benchOf ls last) lane owner out .bench .last ≡ last
   unfolding takeOf put
   take-stays = stays _ _ _ refl
 
-  pub close-stays : closeOf b lane owner .bench .last ≡ last
+  pub close-stays : closeOf (benchOf ls last) lane owner .bench .last ≡ last
   unfolding closeOf put
   close-stays = stays _ _ _ refl

@@ -14,13 +14,11 @@ use Rattle.answers.specs.Numbers.{DONE, BAD_KEY_LENGTH, BAD_BLOCK_LENGTH, BAD_S
 use Rattle.answers.specs.Order.{unless, ifDone}
 use Rattle.answers.proofs.Passed.{passed}
 use Rattle.answers.proofs.Outcome.{if-done, if-refused}
-use Rattle.published.specs.Bytes.{readBlock, writeBlock}
-use Rattle.published.specs.Rounds.{Pair}
 use Rattle.published.specs.Calls.{blockCode, keyCode}
-use Rattle.published.specs.Gift128.{rounds128, encrypted}
-use Rattle.key_schedule.specs.Expand.{expanded}
-use Rattle.key_schedule.proofs.Expanded.{pairs-of-expanded}
-use Rattle.gift128.specs.Calls.{newCode, encryptedBy}
+use Rattle.published.specs.Gift128.{encrypted}
+use Rattle.key_schedule.specs.Expand.{expandCode, expanded}
+use Rattle.gift128.specs.Calls.{encryptedBy}
+use Rattle.gift128.proofs.Blocks.{crossed-key}
 use Rattle.cmac.specs.Standard.{_⊕_, zeroBlock, blockCount, before, blocks, past, lastBlock, chained, cmac}
 use Rattle.cmac.specs.Calls.{pieceCode, tagCode, startedBy, heldBy, kept, fed, tagOf, joined, FedBy, none, more, TagsWhole, Starts, Feeds, TagsState}
 use Rattle.cmac.specs.Inner.{Fills}
@@ -242,11 +240,11 @@ two-pieces s t u v p q i j k f g w = go (leb (s .count) 16) refl
 
 encrypted-key : (key : List ℕ) → encryptedBy (expanded key) ≡ encrypted key
 unfolding encryptedBy encrypted
-encrypted-key key = fun-ext (λ block. ap (λ (ps : List Pair). writeBlock (rounds128 ps 0 (readBlock block))) (pairs-of-expanded key))
+encrypted-key key = fun-ext (crossed-key 0 false key)
 
 started : {s : Mac} {n : ℕ} (key : List ℕ) → length key ≡ 16 → Starts key n s → s ≡ startedBy (expanded key)
-unfolding newCode
-started key len g = g .leaves ∙ if-done (newCode (length key)) (startedBy (expanded key)) (startedBy (replicate 80 0)) (ap newCode len)
+unfolding expandCode
+started key len g = g .leaves ∙ if-done (expandCode (length key) 80) (startedBy (expanded key)) (startedBy (replicate 80 0)) (ap (λ (n : ℕ). expandCode n 80) len)
 
 nothing-fed : (ws : List ℕ) → startedBy ws ≡ fed (startedBy ws) []
 unfolding startedBy fed zeroBlock blockCount blocks chained

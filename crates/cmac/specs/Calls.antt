@@ -9,12 +9,12 @@ use Rattle.answers.specs.Order.{unless}
 use Rattle.answers.specs.Outcome.{Gives}
 use Rattle.published.specs.Calls.{blockCode, keyCode}
 use Rattle.published.specs.Gift128.{encrypted}
-use Rattle.key_schedule.specs.Expand.{expanded}
-use Rattle.gift128.specs.Calls.{newCode, encryptedBy}
+use Rattle.key_schedule.specs.Expand.{expandCode, expanded}
+use Rattle.gift128.specs.Calls.{encryptedBy}
 use Rattle.cmac.specs.Standard.{zeroBlock, before, blocks, past, lastBlock, chained, cmac}
 use Rattle.cmac.specs.declared.Mac.{Mac}
 
--- ---- the numbers: of a whole message and a check 1, 2 (`keyCode`), of a start 1 (`newCode`)
+-- ---- the numbers: of a whole message and a check 1, 2 (`keyCode`), of a start 1 (`expandCode`, of the eighty words that it keeps)
 
 -- a piece: 10 if the state claims more than sixteen held bytes
 unfoldable pub pieceCode : (count : ℕ) → ℕ
@@ -72,7 +72,7 @@ Checks key message tag = Gives (keyCode (length key) (length tag)) (same tag (cm
 
 -- in pieces: a refused start gives the state that is all zero
 abbrev pub Starts : (key : List ℕ) → ℕ → Mac → Type 0
-Starts key = Gives (newCode (length key)) (startedBy (expanded key)) (startedBy (replicate 80 0))
+Starts key = Gives (expandCode (length key) 80) (startedBy (expanded key)) (startedBy (replicate 80 0))
 
 abbrev pub Feeds : (s : Mac) (piece : List ℕ) → ℕ → Mac → Type 0
 Feeds s piece = Gives (pieceCode (s .count)) (fed s piece) s

@@ -7,7 +7,7 @@ use lib.Bits.{bitXor}
 use lib.Dec.{eqb}
 use lib.ListN.{length, take, drop, replicate}
 use Rattle.bits.specs.Digit.{bit}
-use Rattle.published.specs.Bytes.{readBlock, writeBlock}
+use Rattle.published.specs.Bytes.{fromBytes, toBytes}
 
 -- X ⊕ Y, of two strings of the same length
 infixl 32 _⊕_
@@ -25,11 +25,11 @@ R128 = replicate 15 0 ++ 0x87 ∷ []
 
 -- X << 1: the first bit is lost, and a zero comes in at the end
 unfoldable pub shifted : List ℕ → List ℕ
-shifted x = writeBlock (2 * readBlock x % 2 ^ 128)
+shifted x = toBytes 16 (2 * fromBytes x % 2 ^ 128)
 
 -- the first bit of a block
 unfoldable pub firstBit : List ℕ → Bool
-firstBit x = bit (readBlock x) 127
+firstBit x = bit (fromBytes x) 127
 
 -- 6.1, steps 2 and 3: K1 from L, and K2 from K1.
 unfoldable pub subkey : List ℕ → List ℕ

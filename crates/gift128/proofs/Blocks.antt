@@ -17,13 +17,13 @@ use Rattle.primitives.specs.Packed.{blockOf, stateOf}
 use Rattle.primitives.specs.declared.State.{State}
 use Rattle.primitives.proofs.Blocks.{blockOf-stateOf}
 use Rattle.round_words.specs.Arranged.{pairsFrom}
-use Rattle.round_words.proofs.Pairs.{first-pair}
+use Rattle.round_words.proofs.Keeping.{first-pair}
 use Rattle.packing.specs.Packing.{packed, unpacked}
 use Rattle.packing.proofs.Inverse.{packed-block, unpacked-block}
 use Rattle.quintuple.specs.Quintuple.{firstRound}
 use Rattle.key_schedule.specs.Expand.{expandCode, expanded}
 use Rattle.key_schedule.proofs.Expanded.{pairs-of-expanded, length-expanded}
-use Rattle.gift128.specs.Calls.{roundsAll, roundsBy, roundsOf}
+use Rattle.gift128.specs.Calls.{roundsAll, roundsBy}
 use Rattle.gift128.proofs.RoundTrip.{rounds-all-lt}
 
 -- what f does to the state, the call does to the bytes, seen through their order
@@ -44,7 +44,7 @@ module _ (order : ℕ) (o : isOrder order ≡ true) where
       through (roundsBy back ws) s t input output e (rounds-all-lt back (pairsFrom 0 ws)) len h len′ packs goes unpacks
 
 -- by the words of a key it is the published cipher
-pub crossed-key : (order : ℕ) (back : Bool) (key block : List ℕ) → seen order (roundsBy back (expanded key)) block ≡ seen order (roundsOf back key) block
+pub crossed-key : (order : ℕ) (back : Bool) (key block : List ℕ) → seen order (roundsBy back (expanded key)) block ≡ seen order (roundsAll back (pairsOf key)) block
 crossed-key order back key block = ap (λ (ps : List Pair). seen order (roundsAll back ps) block) (pairs-of-expanded key)
 
 -- eighty zeros lent to expansion by a good key become the key's words

@@ -5,3 +5,4 @@ pub mod Blocks
 pub mod Many
 pub mod OrderZero
 pub mod OneOutcome
+pub mod AnyWords

@@ -1,41 +1,31 @@
 -- No call of the cipher has a second outcome: each promise as the source cites it, and one law.
+use mathlib.Core.Bool.{Bool}
 use mathlib.Core.List.{List}
 use Prim.Native.Nat.{ℕ}
+use lib.ListN.{replicate}
 use Rattle.answers.specs.Outcome.{OneOutcome}
 use Rattle.answers.proofs.Outcome.{one-outcome}
 use Rattle.key_schedule.specs.Expand.{Expands}
-use Rattle.gift128.specs.Calls.{EncryptsByKeyIn, DecryptsByKeyIn, EncryptsByWordsIn, DecryptsByWordsIn, EncryptsBlocksIn, DecryptsBlocksIn, MakesOneRound, MakesCipher, EncryptsBlockIn, DecryptsBlockIn}
+use Rattle.gift128.specs.Calls.{CiphersByKeyIn, CiphersByWordsIn, CiphersBlocksIn, MakesOneRound, CiphersBlockIn}
 
-module _ (order : ℕ) (key words block input output : List ℕ) where
+module _ (back : Bool) (order : ℕ) (key words block input output : List ℕ) where
   pub precompute-rkeys : OneOutcome (Expands key words)
   precompute-rkeys = one-outcome _ _ _
 
-  pub encrypt-by-key : OneOutcome (EncryptsByKeyIn order key block)
-  encrypt-by-key = one-outcome _ _ _
+  pub by-key : OneOutcome (CiphersByKeyIn back order key block)
+  by-key = one-outcome _ _ _
 
-  pub decrypt-by-key : OneOutcome (DecryptsByKeyIn order key block)
-  decrypt-by-key = one-outcome _ _ _
+  pub by-words : OneOutcome (CiphersByWordsIn back order words block)
+  by-words = one-outcome _ _ _
 
-  pub encrypt-by-words : OneOutcome (EncryptsByWordsIn order words block)
-  encrypt-by-words = one-outcome _ _ _
-
-  pub decrypt-by-words : OneOutcome (DecryptsByWordsIn order words block)
-  decrypt-by-words = one-outcome _ _ _
-
-  pub encrypt-blocks : OneOutcome (EncryptsBlocksIn order key input output)
-  encrypt-blocks = one-outcome _ _ _
-
-  pub decrypt-blocks : OneOutcome (DecryptsBlocksIn order key input output)
-  decrypt-blocks = one-outcome _ _ _
+  pub blocks : OneOutcome (CiphersBlocksIn back order key input output)
+  blocks = one-outcome _ _ _
 
   pub one-round : OneOutcome (MakesOneRound key block)
   one-round = one-outcome _ _ _
 
-  pub new : OneOutcome (MakesCipher key)
+  pub new : OneOutcome (Expands key (replicate 80 0))
   new = one-outcome _ _ _
 
-  pub encrypt-block : OneOutcome (EncryptsBlockIn order words block)
-  encrypt-block = one-outcome _ _ _
-
-  pub decrypt-block : OneOutcome (DecryptsBlockIn order words block)
-  decrypt-block = one-outcome _ _ _
+  pub block-by-its-own : OneOutcome (CiphersBlockIn back order words block)
+  block-by-its-own = one-outcome _ _ _

@@ -15,19 +15,18 @@ use quintuple::first_round;
 use quintuple::inv_quintuple_round;
 use quintuple::quintuple_round;
 ghost use mathlib.Core.Path.{_≡_};
-ghost use mathlib.Core.Bool.{true};
+ghost use mathlib.Core.Bool.{true, false};
 ghost use Prim.Native.Nat.{_%_};
-ghost use lib.ListN.{length};
+ghost use lib.ListN.{length, replicate};
 ghost use denote.Ref.{now};
-ghost use Rattle.answers.specs.Outcome.{Gives};
 ghost use Rattle.published.specs.Gift128.{rounds128, unrounds128};
 ghost use Rattle.published.specs.Seen.{isOrder, seen};
-ghost use Rattle.published.specs.Calls.{keyCode};
 ghost use Rattle.primitives.specs.Packed.{blockOf, stateOf};
 ghost use Rattle.round_words.specs.Arranged.{pairsFrom};
-ghost use Rattle.gift128.specs.Calls.{orderCode, wordsCode, manyCode, roundsBy, roundsOf, allBlocks};
-ghost use Rattle.gift128.specs.Calls.{EncryptsByKeyIn, DecryptsByKeyIn, EncryptsByWordsIn, DecryptsByWordsIn, EncryptsBlocksIn, DecryptsBlocksIn};
-ghost use Rattle.gift128.specs.Calls.{MakesOneRound, MakesCipher, EncryptsBlockIn, DecryptsBlockIn};
+ghost use Rattle.key_schedule.specs.Expand.{Expands};
+ghost use Rattle.gift128.specs.Calls.{roundsBy, allBlocks};
+ghost use Rattle.gift128.specs.Calls.{CiphersByKeyIn, CiphersByWordsIn, CiphersBlocksIn};
+ghost use Rattle.gift128.specs.Calls.{MakesOneRound, CiphersBlockIn};
 
 // A cipher instance: its eighty round words. One made from a refused key has eighty zero words, which are those of the all-zero key.
 #[repr(C)]
@@ -51,7 +50,7 @@ impl Gift128 {
 
     // Refusal: 1.
     pub fn new(key: &[u8]) -> Made
-        ensures { λ r. ⌜ MakesCipher (now (key .entry)) (r .code) (r .cipher .k) ⌝ }
+        ensures { λ r. ⌜ Expands (now (key .entry)) (replicate 80 0) (r .code) (r .cipher .k) ⌝ }
     {
         let mut k = [0u32; 80];
         let code = precompute_rkeys(key, &mut k);
@@ -61,14 +60,14 @@ impl Gift128 {
 
     // One block. Refusals: 13, 2.
     pub fn encrypt_block(self, order: u32, block: &mut [u8]) -> u32
-        ensures { λ r. ⌜ EncryptsBlockIn order (self .k) (now (block .entry)) r (now (block .exit)) ⌝ }
+        ensures { λ r. ⌜ CiphersBlockIn false order (self .k) (now (block .entry)) r (now (block .exit)) ⌝ }
     {
         let k = self.k;
         encrypt_by_words(order, &k, block)
     }
 
     pub fn decrypt_block(self, order: u32, block: &mut [u8]) -> u32
-        ensures { λ r. ⌜ DecryptsBlockIn order (self .k) (now (block .entry)) r (now (block .exit)) ⌝ }
+        ensures { λ r. ⌜ CiphersBlockIn true order (self .k) (now (block .entry)) r (now (block .exit)) ⌝ }
     {
         let k = self.k;
         decrypt_by_words(order, &k, block)
@@ -131,7 +130,7 @@ fn in_place(order: u32, rkey: &[u32], block: &mut [u8], back: bool)
 }
 
 fn by_words(order: u32, rkey: &[u32], block: &mut [u8], back: bool) -> u32
-    ensures { λ r. ⌜ Gives (orderCode order (wordsCode (length (now (rkey .entry))) (length (now (block .entry))))) (seen order (roundsBy back (now (rkey .entry))) (now (block .entry))) (now (block .entry)) r (now (block .exit)) ⌝ }
+    ensures { λ r. ⌜ CiphersByWordsIn back order (now (rkey .entry)) (now (block .entry)) r (now (block .exit)) ⌝ }
 {
     let code = in_order(order, words_code(rkey.len(), block.len()));
     if code != DONE {
@@ -143,19 +142,19 @@ fn by_words(order: u32, rkey: &[u32], block: &mut [u8], back: bool) -> u32
 
 // One block by round words, any eighty. Refusals: 13, 4, 2.
 pub fn encrypt_by_words(order: u32, rkey: &[u32], block: &mut [u8]) -> u32
-    ensures { λ r. ⌜ EncryptsByWordsIn order (now (rkey .entry)) (now (block .entry)) r (now (block .exit)) ⌝ }
+    ensures { λ r. ⌜ CiphersByWordsIn false order (now (rkey .entry)) (now (block .entry)) r (now (block .exit)) ⌝ }
 {
     by_words(order, rkey, block, false)
 }
 
 pub fn decrypt_by_words(order: u32, rkey: &[u32], block: &mut [u8]) -> u32
-    ensures { λ r. ⌜ DecryptsByWordsIn order (now (rkey .entry)) (now (block .entry)) r (now (block .exit)) ⌝ }
+    ensures { λ r. ⌜ CiphersByWordsIn true order (now (rkey .entry)) (now (block .entry)) r (now (block .exit)) ⌝ }
 {
     by_words(order, rkey, block, true)
 }
 
 fn by_key(order: u32, key: &[u8], block: &mut [u8], back: bool) -> u32
-    ensures { λ r. ⌜ Gives (orderCode order (keyCode (length (now (key .entry))) (length (now (block .entry))))) (seen order (roundsOf back (now (key .entry))) (now (block .entry))) (now (block .entry)) r (now (block .exit)) ⌝ }
+    ensures { λ r. ⌜ CiphersByKeyIn back order (now (key .entry)) (now (block .entry)) r (now (block .exit)) ⌝ }
 {
     let code = in_order(order, key_code(key.len(), block.len()));
     if code != DONE {
@@ -169,13 +168,13 @@ fn by_key(order: u32, key: &[u8], block: &mut [u8], back: bool) -> u32
 
 // One block by a key. Refusals: 13, 1, 2.
 pub fn encrypt_by_key(order: u32, key: &[u8], block: &mut [u8]) -> u32
-    ensures { λ r. ⌜ EncryptsByKeyIn order (now (key .entry)) (now (block .entry)) r (now (block .exit)) ⌝ }
+    ensures { λ r. ⌜ CiphersByKeyIn false order (now (key .entry)) (now (block .entry)) r (now (block .exit)) ⌝ }
 {
     by_key(order, key, block, false)
 }
 
 pub fn decrypt_by_key(order: u32, key: &[u8], block: &mut [u8]) -> u32
-    ensures { λ r. ⌜ DecryptsByKeyIn order (now (key .entry)) (now (block .entry)) r (now (block .exit)) ⌝ }
+    ensures { λ r. ⌜ CiphersByKeyIn true order (now (key .entry)) (now (block .entry)) r (now (block .exit)) ⌝ }
 {
     by_key(order, key, block, true)
 }
@@ -228,7 +227,7 @@ fn all(order: u32, rkey: &[u32], input: &[u8], output: &mut [u8], back: bool)
 }
 
 fn many_by_key(order: u32, key: &[u8], input: &[u8], output: &mut [u8], back: bool) -> u32
-    ensures { λ r. ⌜ Gives (orderCode order (manyCode (length (now (key .entry))) (length (now (input .entry))) (length (now (output .entry))))) (allBlocks (seen order (roundsOf back (now (key .entry)))) (now (input .entry))) (now (output .entry)) r (now (output .exit)) ⌝ }
+    ensures { λ r. ⌜ CiphersBlocksIn back order (now (key .entry)) (now (input .entry)) (now (output .entry)) r (now (output .exit)) ⌝ }
 {
     let own = many_code(key.len(), input.len(), output.len());
     let code = in_order(order, own);
@@ -243,13 +242,13 @@ fn many_by_key(order: u32, key: &[u8], input: &[u8], output: &mut [u8], back: bo
 
 // Many blocks by a key. Refusals: 13, 1, 2, 3.
 pub fn encrypt_blocks(order: u32, key: &[u8], input: &[u8], output: &mut [u8]) -> u32
-    ensures { λ r. ⌜ EncryptsBlocksIn order (now (key .entry)) (now (input .entry)) (now (output .entry)) r (now (output .exit)) ⌝ }
+    ensures { λ r. ⌜ CiphersBlocksIn false order (now (key .entry)) (now (input .entry)) (now (output .entry)) r (now (output .exit)) ⌝ }
 {
     many_by_key(order, key, input, output, false)
 }
 
 pub fn decrypt_blocks(order: u32, key: &[u8], input: &[u8], output: &mut [u8]) -> u32
-    ensures { λ r. ⌜ DecryptsBlocksIn order (now (key .entry)) (now (input .entry)) (now (output .entry)) r (now (output .exit)) ⌝ }
+    ensures { λ r. ⌜ CiphersBlocksIn true order (now (key .entry)) (now (input .entry)) (now (output .entry)) r (now (output .exit)) ⌝ }
 {
     many_by_key(order, key, input, output, true)
 }

@@ -8,8 +8,8 @@ use answers::BAD_WORD_COUNT;
 use answers::DONE;
 use packing::is_order;
 ghost use mathlib.Core.Path.{_≡_};
-ghost use Rattle.published.specs.Calls.{blockCode, keyCode};
-ghost use Rattle.gift128.specs.Calls.{orderCode, wordsCode, manyCode};
+ghost use Rattle.published.specs.Calls.{blockCode, keyCode, manyCode};
+ghost use Rattle.gift128.specs.Calls.{orderCode, wordsCode};
 
 // 13, and then the call's own number.
 pub(crate) fn in_order(order: u32, own: u32) -> u32
@@ -53,7 +53,7 @@ pub(crate) fn words_code(words: usize, block: usize) -> u32
 
 // Many blocks by a key: 1, 2, 3.
 pub(crate) fn many_code(key: usize, input: usize, output: usize) -> u32
-    ensures { λ r. ⌜ r ≡ manyCode key input output ⌝ }
+    ensures { λ r. ⌜ r ≡ manyCode 16 key input output ⌝ }
 {
     if key != Gift128::KEY_SIZE {
         return BAD_KEY_LENGTH;

@@ -11,12 +11,14 @@ use packing::unpacking_64;
 use rounds::through;
 use words::expand;
 ghost use mathlib.Core.Path.{_≡_};
+ghost use mathlib.Core.Bool.{true, false};
 ghost use Prim.Native.Nat.{_%_};
 ghost use lib.ListN.{length};
 ghost use denote.Ref.{now};
 ghost use Rattle.answers.specs.Outcome.{Gives};
 ghost use Rattle.published.specs.Blocks.{allOf};
-ghost use Rattle.published.specs.Calls64.{keyCode64, manyCode64, EncryptsByKey64, DecryptsByKey64, EncryptsBlocks64, DecryptsBlocks64};
+ghost use Rattle.published.specs.Calls.{manyCode};
+ghost use Rattle.published.specs.Calls64.{keyCode64, CiphersByKey64, CiphersBlocks64};
 ghost use Rattle.gift64.specs.Inner.{crossedBy, crossed};
 
 // ---- one block
@@ -37,13 +39,13 @@ fn by_key(key: &[u8], block: &mut [u8], back: bool) -> u32
 
 // One block by a key, in place. Refusals: 1, 2.
 pub fn encrypt_by_key(key: &[u8], block: &mut [u8]) -> u32
-    ensures { λ r. ⌜ EncryptsByKey64 (now (key .entry)) (now (block .entry)) r (now (block .exit)) ⌝ }
+    ensures { λ r. ⌜ CiphersByKey64 false (now (key .entry)) (now (block .entry)) r (now (block .exit)) ⌝ }
 {
     by_key(key, block, false)
 }
 
 pub fn decrypt_by_key(key: &[u8], block: &mut [u8]) -> u32
-    ensures { λ r. ⌜ DecryptsByKey64 (now (key .entry)) (now (block .entry)) r (now (block .exit)) ⌝ }
+    ensures { λ r. ⌜ CiphersByKey64 true (now (key .entry)) (now (block .entry)) r (now (block .exit)) ⌝ }
 {
     by_key(key, block, true)
 }
@@ -77,7 +79,7 @@ fn all(words: &[u32], input: &[u8], output: &mut [u8], back: bool)
 }
 
 fn many_by_key(key: &[u8], input: &[u8], output: &mut [u8], back: bool) -> u32
-    ensures { λ r. ⌜ Gives (manyCode64 (length (now (key .entry))) (length (now (input .entry))) (length (now (output .entry)))) (allOf 8 (crossed back (now (key .entry))) (now (input .entry))) (now (output .entry)) r (now (output .exit)) ⌝ }
+    ensures { λ r. ⌜ Gives (manyCode 8 (length (now (key .entry))) (length (now (input .entry))) (length (now (output .entry)))) (allOf 8 (crossed back (now (key .entry))) (now (input .entry))) (now (output .entry)) r (now (output .exit)) ⌝ }
 {
     let code = many_code(key.len(), input.len(), output.len());
     if code != DONE {
@@ -90,13 +92,13 @@ fn many_by_key(key: &[u8], input: &[u8], output: &mut [u8], back: bool) -> u32
 
 // Many blocks by a key. Refusals: 1, 2, 3.
 pub fn encrypt_blocks(key: &[u8], input: &[u8], output: &mut [u8]) -> u32
-    ensures { λ r. ⌜ EncryptsBlocks64 (now (key .entry)) (now (input .entry)) (now (output .entry)) r (now (output .exit)) ⌝ }
+    ensures { λ r. ⌜ CiphersBlocks64 false (now (key .entry)) (now (input .entry)) (now (output .entry)) r (now (output .exit)) ⌝ }
 {
     many_by_key(key, input, output, false)
 }
 
 pub fn decrypt_blocks(key: &[u8], input: &[u8], output: &mut [u8]) -> u32
-    ensures { λ r. ⌜ DecryptsBlocks64 (now (key .entry)) (now (input .entry)) (now (output .entry)) r (now (output .exit)) ⌝ }
+    ensures { λ r. ⌜ CiphersBlocks64 true (now (key .entry)) (now (input .entry)) (now (output .entry)) r (now (output .exit)) ⌝ }
 {
     many_by_key(key, input, output, true)
 }

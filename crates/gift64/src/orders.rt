@@ -4,7 +4,8 @@ use answers::BAD_KEY_LENGTH;
 use answers::BAD_OUTPUT_LENGTH;
 use answers::DONE;
 ghost use mathlib.Core.Path.{_≡_};
-ghost use Rattle.published.specs.Calls64.{keyCode64, manyCode64};
+ghost use Rattle.published.specs.Calls.{manyCode};
+ghost use Rattle.published.specs.Calls64.{keyCode64};
 
 const BLOCK_SIZE: usize = 8;
 
@@ -25,7 +26,7 @@ pub(crate) fn key_code(key: usize, block: usize) -> u32
 
 // Many blocks by a key: 1, 2, 3.
 pub(crate) fn many_code(key: usize, input: usize, output: usize) -> u32
-    ensures { λ r. ⌜ r ≡ manyCode64 key input output ⌝ }
+    ensures { λ r. ⌜ r ≡ manyCode 8 key input output ⌝ }
 {
     if key != KEY_SIZE {
         return BAD_KEY_LENGTH;

@@ -11,11 +11,13 @@ use cmac::Mac;
 use cmac::Started;
 use lane::Lane;
 ghost use mathlib.Core.Path.{_≡_};
+ghost use mathlib.Core.Bool.{true, false};
 ghost use denote.Ref.{now};
-ghost use Rattle.published.specs.Calls.{EncryptsByKey, DecryptsByKey};
-ghost use Rattle.published.specs.Calls64.{EncryptsByKey64, DecryptsByKey64, EncryptsBlocks64, DecryptsBlocks64};
+ghost use Rattle.published.specs.Calls.{CiphersByKey};
+ghost use Rattle.published.specs.Calls64.{CiphersByKey64, CiphersBlocks64};
+ghost use Rattle.round_words.specs.Calls.{TellsPairs, TellsWords};
 ghost use Rattle.key_schedule.specs.Expand.{Expands};
-ghost use Rattle.gift128.specs.Calls.{EncryptsByKeyIn, DecryptsByKeyIn, EncryptsByWordsIn, DecryptsByWordsIn, EncryptsBlocksIn, DecryptsBlocksIn};
+ghost use Rattle.gift128.specs.Calls.{CiphersByKeyIn, CiphersByWordsIn, CiphersBlocksIn};
 ghost use Rattle.counter.specs.Calls.{Starts as StartsStream, Feeds as FeedsStream};
 ghost use Rattle.cmac.specs.Calls.{TagsWhole, Checks, Starts, Feeds, TagsState};
 ghost use Rattle.bench_lent.specs.Lent.{Opens, Serves, Takes, Closes};
@@ -36,14 +38,14 @@ pub extern "C" fn gift_host_edition() -> u32
 // One block by a key, in place. Refusals: 13, 1, 2.
 #[no_mangle]
 pub extern "C" fn gift_encrypt_by_key(order: u32, key: &[u8], block: &mut [u8]) -> u32
-    ensures { λ r. ⌜ EncryptsByKeyIn order (now (key .entry)) (now (block .entry)) r (now (block .exit)) ⌝ }
+    ensures { λ r. ⌜ CiphersByKeyIn false order (now (key .entry)) (now (block .entry)) r (now (block .exit)) ⌝ }
 {
     gift128::encrypt_by_key(order, key, block)
 }
 
 #[no_mangle]
 pub extern "C" fn gift_decrypt_by_key(order: u32, key: &[u8], block: &mut [u8]) -> u32
-    ensures { λ r. ⌜ DecryptsByKeyIn order (now (key .entry)) (now (block .entry)) r (now (block .exit)) ⌝ }
+    ensures { λ r. ⌜ CiphersByKeyIn true order (now (key .entry)) (now (block .entry)) r (now (block .exit)) ⌝ }
 {
     gift128::decrypt_by_key(order, key, block)
 }
@@ -51,14 +53,14 @@ pub extern "C" fn gift_decrypt_by_key(order: u32, key: &[u8], block: &mut [u8]) 
 // The same by the plain engine, which is written to be read and not to be fast, and knows order 0 alone. Refusals: 1, 2.
 #[no_mangle]
 pub extern "C" fn gift_plain_encrypt_by_key(key: &[u8], block: &mut [u8]) -> u32
-    ensures { λ r. ⌜ EncryptsByKey (now (key .entry)) (now (block .entry)) r (now (block .exit)) ⌝ }
+    ensures { λ r. ⌜ CiphersByKey false (now (key .entry)) (now (block .entry)) r (now (block .exit)) ⌝ }
 {
     plain::encrypt_by_key(key, block)
 }
 
 #[no_mangle]
 pub extern "C" fn gift_plain_decrypt_by_key(key: &[u8], block: &mut [u8]) -> u32
-    ensures { λ r. ⌜ DecryptsByKey (now (key .entry)) (now (block .entry)) r (now (block .exit)) ⌝ }
+    ensures { λ r. ⌜ CiphersByKey true (now (key .entry)) (now (block .entry)) r (now (block .exit)) ⌝ }
 {
     plain::decrypt_by_key(key, block)
 }
@@ -66,14 +68,14 @@ pub extern "C" fn gift_plain_decrypt_by_key(key: &[u8], block: &mut [u8]) -> u32
 // One block by round words, any eighty, in place. Refusals: 13, 4, 2.
 #[no_mangle]
 pub extern "C" fn gift_encrypt_by_words(order: u32, words: &[u32], block: &mut [u8]) -> u32
-    ensures { λ r. ⌜ EncryptsByWordsIn order (now (words .entry)) (now (block .entry)) r (now (block .exit)) ⌝ }
+    ensures { λ r. ⌜ CiphersByWordsIn false order (now (words .entry)) (now (block .entry)) r (now (block .exit)) ⌝ }
 {
     gift128::encrypt_by_words(order, words, block)
 }
 
 #[no_mangle]
 pub extern "C" fn gift_decrypt_by_words(order: u32, words: &[u32], block: &mut [u8]) -> u32
-    ensures { λ r. ⌜ DecryptsByWordsIn order (now (words .entry)) (now (block .entry)) r (now (block .exit)) ⌝ }
+    ensures { λ r. ⌜ CiphersByWordsIn true order (now (words .entry)) (now (block .entry)) r (now (block .exit)) ⌝ }
 {
     gift128::decrypt_by_words(order, words, block)
 }
@@ -86,6 +88,21 @@ pub extern "C" fn gift_expand(key: &[u8], words: &mut [u32]) -> u32
     key_schedule::precompute_rkeys(key, words)
 }
 
+// The forty pairs that eighty round words stand for, V and then U of each, and the words that stand for such pairs. Refusals: 4, 3.
+#[no_mangle]
+pub extern "C" fn gift_pairs(words: &[u32], pairs: &mut [u32]) -> u32
+    ensures { λ r. ⌜ TellsPairs (now (words .entry)) (now (pairs .entry)) r (now (pairs .exit)) ⌝ }
+{
+    round_words::pairs(words, pairs)
+}
+
+#[no_mangle]
+pub extern "C" fn gift_words(pairs: &[u32], words: &mut [u32]) -> u32
+    ensures { λ r. ⌜ TellsWords (now (pairs .entry)) (now (words .entry)) r (now (words .exit)) ⌝ }
+{
+    round_words::words(pairs, words)
+}
+
 // Many blocks by a key, from one buffer to another. Refusals: 13, 1, 2, 3.
 #[no_mangle]
 pub extern "C" fn gift_encrypt_blocks(
@@ -94,7 +111,7 @@ pub extern "C" fn gift_encrypt_blocks(
     input: &[u8],
     output: &mut [u8],
 ) -> u32
-    ensures { λ r. ⌜ EncryptsBlocksIn order (now (key .entry)) (now (input .entry)) (now (output .entry)) r (now (output .exit)) ⌝ }
+    ensures { λ r. ⌜ CiphersBlocksIn false order (now (key .entry)) (now (input .entry)) (now (output .entry)) r (now (output .exit)) ⌝ }
 {
     gift128::encrypt_blocks(order, key, input, output)
 }
@@ -106,7 +123,7 @@ pub extern "C" fn gift_decrypt_blocks(
     input: &[u8],
     output: &mut [u8],
 ) -> u32
-    ensures { λ r. ⌜ DecryptsBlocksIn order (now (key .entry)) (now (input .entry)) (now (output .entry)) r (now (output .exit)) ⌝ }
+    ensures { λ r. ⌜ CiphersBlocksIn true order (now (key .entry)) (now (input .entry)) (now (output .entry)) r (now (output .exit)) ⌝ }
 {
     gift128::decrypt_blocks(order, key, input, output)
 }
@@ -223,14 +240,14 @@ pub extern "C" fn gift_stream_piece(
 // GIFT-64. One block by a key, in place. Refusals: 1, 2.
 #[no_mangle]
 pub extern "C" fn gift64_encrypt_by_key(key: &[u8], block: &mut [u8]) -> u32
-    ensures { λ r. ⌜ EncryptsByKey64 (now (key .entry)) (now (block .entry)) r (now (block .exit)) ⌝ }
+    ensures { λ r. ⌜ CiphersByKey64 false (now (key .entry)) (now (block .entry)) r (now (block .exit)) ⌝ }
 {
     gift64::encrypt_by_key(key, block)
 }
 
 #[no_mangle]
 pub extern "C" fn gift64_decrypt_by_key(key: &[u8], block: &mut [u8]) -> u32
-    ensures { λ r. ⌜ DecryptsByKey64 (now (key .entry)) (now (block .entry)) r (now (block .exit)) ⌝ }
+    ensures { λ r. ⌜ CiphersByKey64 true (now (key .entry)) (now (block .entry)) r (now (block .exit)) ⌝ }
 {
     gift64::decrypt_by_key(key, block)
 }
@@ -238,14 +255,14 @@ pub extern "C" fn gift64_decrypt_by_key(key: &[u8], block: &mut [u8]) -> u32
 // The same by the plain engine. Refusals: 1, 2.
 #[no_mangle]
 pub extern "C" fn gift64_plain_encrypt_by_key(key: &[u8], block: &mut [u8]) -> u32
-    ensures { λ r. ⌜ EncryptsByKey64 (now (key .entry)) (now (block .entry)) r (now (block .exit)) ⌝ }
+    ensures { λ r. ⌜ CiphersByKey64 false (now (key .entry)) (now (block .entry)) r (now (block .exit)) ⌝ }
 {
     plain::encrypt_64_by_key(key, block)
 }
 
 #[no_mangle]
 pub extern "C" fn gift64_plain_decrypt_by_key(key: &[u8], block: &mut [u8]) -> u32
-    ensures { λ r. ⌜ DecryptsByKey64 (now (key .entry)) (now (block .entry)) r (now (block .exit)) ⌝ }
+    ensures { λ r. ⌜ CiphersByKey64 true (now (key .entry)) (now (block .entry)) r (now (block .exit)) ⌝ }
 {
     plain::decrypt_64_by_key(key, block)
 }
@@ -253,14 +270,14 @@ pub extern "C" fn gift64_plain_decrypt_by_key(key: &[u8], block: &mut [u8]) -> u
 // Many blocks by a key, from one buffer to another. Refusals: 1, 2, 3.
 #[no_mangle]
 pub extern "C" fn gift64_encrypt_blocks(key: &[u8], input: &[u8], output: &mut [u8]) -> u32
-    ensures { λ r. ⌜ EncryptsBlocks64 (now (key .entry)) (now (input .entry)) (now (output .entry)) r (now (output .exit)) ⌝ }
+    ensures { λ r. ⌜ CiphersBlocks64 false (now (key .entry)) (now (input .entry)) (now (output .entry)) r (now (output .exit)) ⌝ }
 {
     gift64::encrypt_blocks(key, input, output)
 }
 
 #[no_mangle]
 pub extern "C" fn gift64_decrypt_blocks(key: &[u8], input: &[u8], output: &mut [u8]) -> u32
-    ensures { λ r. ⌜ DecryptsBlocks64 (now (key .entry)) (now (input .entry)) (now (output .entry)) r (now (output .exit)) ⌝ }
+    ensures { λ r. ⌜ CiphersBlocks64 true (now (key .entry)) (now (input .entry)) (now (output .entry)) r (now (output .exit)) ⌝ }
 {
     gift64::decrypt_blocks(key, input, output)
 }

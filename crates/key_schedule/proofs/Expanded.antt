@@ -8,20 +8,22 @@ use Rattle.published.specs.Bytes.{fromBytes, Bytes}
 use Rattle.published.specs.Key.{update, pairs}
 use Rattle.published.specs.Gift128.{pairOf, pairsOf}
 use Rattle.published.proofs.Gift128.{length-pairs}
-use Rattle.round_words.specs.Arranged.{pairsFrom}
-use Rattle.round_words.proofs.Pairs.{Fit, length-words, pairs-words}
+use Rattle.round_words.specs.Arranged.{pairsFrom, inRow}
+use Rattle.round_words.proofs.Keeping.{Words32, length-words, pairs-words}
 use Rattle.key_schedule.specs.declared.Ten.{Ten}
 use Rattle.key_schedule.specs.Expand.{expanded}
 use Rattle.key_schedule.specs.InnerTens.{firstWords, fiveRounds, fiveLater, wordsOf, following, grown}
 use Rattle.key_schedule.proofs.KeyState.{u-lt, v-lt, fourOf, four-later, tens-of}
 use Rattle.key_schedule.proofs.KeyBytes.{first-words-are}
 
-fit-pairs : (r k : ℕ) → Fit (pairs pairOf r k)
-unfolding pairs
-fit-pairs zero k = tt
-fit-pairs (suc r) k = (u-lt k, v-lt k, fit-pairs r (update k))
+fit-pairs : (r k : ℕ) → Words32 (inRow (pairs pairOf r k))
+unfolding pairs inRow
+fit-pairs zero k i = lit< tt
+fit-pairs (suc r) k zero = v-lt k
+fit-pairs (suc r) k (suc zero) = u-lt k
+fit-pairs (suc r) k (suc (suc i)) = fit-pairs r (update k) i
 
-pub fit-key : (key : List ℕ) → Fit (pairsOf key)
+pub fit-key : (key : List ℕ) → Words32 (inRow (pairsOf key))
 unfolding pairsOf
 fit-key key = fit-pairs 40 (fromBytes key)
 

@@ -7,3 +7,4 @@ pub mod KeyState
 pub mod KeyBytes
 pub mod Expanded
 pub mod Passing
+pub mod EqualKeys

@@ -1,10 +1,5 @@
--- Four words and ten words are equal field by field; and a word of the fifth round is kept as it is.
+-- Four words and ten words are equal field by field.
 use mathlib.Core.Path.{_≡_}
-use Prim.Native.Nat.{ℕ, _^_, _<_}
-use Rattle.bits.proofs.Computed.{agree}
-use Rattle.published.specs.Rounds.{P}
-use Rattle.primitives.proofs.Moves.{permuted-id}
-use Rattle.round_words.specs.Arranged.{N, nibbleAt, arranged}
 use Rattle.key_schedule.specs.declared.Four.{Four}
 use Rattle.key_schedule.specs.declared.Ten.{Ten}
 
@@ -15,8 +10,3 @@ pub same-ten : (s t : Ten) → s .v0 ≡ t .v0 → s .u0 ≡ t .u0 → s .v1 ≡
     → s .v4 ≡ t .v4 → s .u4 ≡ t .u4 → s ≡ t
 same-ten s t p0 q0 p1 q1 p2 q2 p3 q3 p4 q4 =
     λ i. record { v0 = p0 i; u0 = q0 i; v1 = p1 i; u1 = q1 i; v2 = p2 i; u2 = q2 i; v3 = p3 i; u3 = q3 i; v4 = p4 i; u4 = q4 i }
-
--- five rounds in, a word is in place again
-pub arranged-five : (w : ℕ) → w < 2 ^ 32 → arranged 5 w ≡ w
-unfolding arranged nibbleAt N P
-arranged-five w h = permuted-id (nibbleAt 5) w (agree 32 (nibbleAt 5) (λ i. i) tt) h

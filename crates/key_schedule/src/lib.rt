@@ -5,50 +5,17 @@ use answers::DONE;
 use primitives::ror;
 use primitives::swapmovesingle;
 use primitives::u32big;
+use round_words::rearrange_rkey_0;
+use round_words::rearrange_rkey_1;
+use round_words::rearrange_rkey_2;
+use round_words::rearrange_rkey_3;
 ghost use mathlib.Core.Path.{_≡_};
 ghost use lib.ListN.{length};
 ghost use Rattle.published.specs.Bytes.{fromBytes};
 ghost use Rattle.primitives.specs.Words.{permuted};
-ghost use Rattle.round_words.specs.Arranged.{arranged};
 ghost use Rattle.key_schedule.specs.Expand.{expandCode, expanded, Expands};
 ghost use Rattle.key_schedule.specs.InnerUpdate.{updated, later, tripled};
 ghost use Rattle.key_schedule.specs.InnerTens.{firstWords, keyWords, fiveRounds, fiveLater, tenLater, wordsOf, tenOf, grown};
-
-fn rearrange_rkey_0(x: u32) -> u32
-    ensures { λ r. ⌜ r ≡ arranged 1 x ⌝ }
-{
-    let a = swapmovesingle(x, 0x00550055, 9);
-    let b = swapmovesingle(a, 0x000f000f, 12);
-    let c = swapmovesingle(b, 0x00003333, 18);
-    swapmovesingle(c, 0x000000ff, 24)
-}
-
-fn rearrange_rkey_1(x: u32) -> u32
-    ensures { λ r. ⌜ r ≡ arranged 2 x ⌝ }
-{
-    let a = swapmovesingle(x, 0x11111111, 3);
-    let b = swapmovesingle(a, 0x03030303, 6);
-    let c = swapmovesingle(b, 0x000f000f, 12);
-    swapmovesingle(c, 0x000000ff, 24)
-}
-
-fn rearrange_rkey_2(x: u32) -> u32
-    ensures { λ r. ⌜ r ≡ arranged 3 x ⌝ }
-{
-    let a = swapmovesingle(x, 0x0000aaaa, 15);
-    let b = swapmovesingle(a, 0x00003333, 18);
-    let c = swapmovesingle(b, 0x0000f0f0, 12);
-    swapmovesingle(c, 0x000000ff, 24)
-}
-
-fn rearrange_rkey_3(x: u32) -> u32
-    ensures { λ r. ⌜ r ≡ arranged 4 x ⌝ }
-{
-    let a = swapmovesingle(x, 0x0a0a0a0a, 3);
-    let b = swapmovesingle(a, 0x00cc00cc, 6);
-    let c = swapmovesingle(b, 0x0000f0f0, 12);
-    swapmovesingle(c, 0x000000ff, 24)
-}
 
 // (k1 rotated right 2) ‖ (k0 rotated right 12).
 pub fn key_update(x: u32) -> u32

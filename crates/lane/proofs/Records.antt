@@ -16,8 +16,7 @@ use Rattle.published.specs.Seen.{isOrder, readIn, writeIn}
 use Rattle.primitives.specs.declared.State.{State}
 use Rattle.primitives.specs.Packed.{blockOf, stateOf}
 use Rattle.packing.proofs.Inverse.{packed-block, unpacked-block}
-use Rattle.key_schedule.specs.Expand.{expanded}
-use Rattle.gift128.specs.Calls.{newCode}
+use Rattle.key_schedule.specs.Expand.{expandCode, expanded}
 use Rattle.lane.specs.declared.Lane.{Lane}
 use Rattle.lane.specs.Record.{running, finished, idle, idleLane, everything, allZero, soundCount, soundLane, admits, opened, advanced, served, lacks, yielded}
 use Rattle.lane.proofs.Zero.{idle-is-zero}
@@ -203,7 +202,7 @@ eight-finished l s e =
 pub opened-on : (owner direction order : ℕ) (key block : List ℕ) → isOrder order ≡ true → length key ≡ 16 → length block ≡ 16
     → opened owner direction order key block
     ≡ record { phase = running; direction = direction; owner = owner; count = 0; order = order; words = expanded key; state = stateOf (readIn order block) }
-unfolding opened newCode
+unfolding opened expandCode
 opened-on owner direction order key block o k b =
     λ i. record {
       phase = running;
@@ -211,7 +210,7 @@ opened-on owner direction order key block o k b =
       owner = owner;
       count = 0;
       order = order;
-      words = ap (λ (n : ℕ). ifDone (newCode n) (expanded key) (replicate 80 0)) k i;
+      words = ap (λ (n : ℕ). ifDone (expandCode n 80) (expanded key) (replicate 80 0)) k i;
       state = packed-block order block o b i;
     }
 

@@ -1,5 +1,6 @@
 -- What each letter is answered, and that a call by a key of 16 bytes on a block of 16 bytes leaves what it was to write.
 use mathlib.Core.Path.{_≡_, _∙_}
+use mathlib.Core.Bool.{true, false}
 use mathlib.Core.List.{List}
 use Prim.Native.Nat.{ℕ}
 use lib.ListN.{length}
@@ -7,8 +8,8 @@ use borrow.Author.Tests.{eq-eqb, ne-eqb}
 use Rattle.answers.specs.Outcome.{Gives}
 use Rattle.published.specs.Bytes.{fromBytes}
 use Rattle.published.specs.Gift128.{encrypted, decrypted}
-use Rattle.published.specs.Calls.{blockCode, keyCode, EncryptsByKey, DecryptsByKey}
-use Rattle.gift128.specs.Calls.{orderCode, EncryptsByKeyIn, DecryptsByKeyIn, afterOne}
+use Rattle.published.specs.Calls.{blockCode, keyCode, CiphersByKey}
+use Rattle.gift128.specs.Calls.{orderCode, CiphersByKeyIn, afterOne}
 use Rattle.lines.specs.Hex.{hexOf}
 use Rattle.lines.specs.Line.{packedText, response}
 
@@ -18,11 +19,11 @@ unfolding keyCode blockCode
 leaves key block k b g = g .leaves ∙ (rw (k, b))
 
 -- the cipher in order 0
-pub encrypts : (key block : List ℕ) {r : ℕ} {left : List ℕ} → EncryptsByKeyIn 0 key block r left → EncryptsByKey key block r left
+pub encrypts : (key block : List ℕ) {r : ℕ} {left : List ℕ} → CiphersByKeyIn false 0 key block r left → CiphersByKey false key block r left
 unfolding orderCode encrypted
 encrypts key block g = g
 
-pub decrypts : (key block : List ℕ) {r : ℕ} {left : List ℕ} → DecryptsByKeyIn 0 key block r left → DecryptsByKey key block r left
+pub decrypts : (key block : List ℕ) {r : ℕ} {left : List ℕ} → CiphersByKeyIn true 0 key block r left → CiphersByKey true key block r left
 unfolding orderCode decrypted
 decrypts key block g = g
 

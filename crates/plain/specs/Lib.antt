@@ -1,2 +1,2 @@
--- What the steps do to nibbles. The calls promise what `EncryptsByKey`, `DecryptsByKey`, `EncryptsByKey64` and `DecryptsByKey64` of the crate published say.
+-- What the steps do to nibbles. The calls promise what `CiphersByKey` and `CiphersByKey64` of the crate published say.
 pub mod Inner

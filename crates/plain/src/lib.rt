@@ -9,13 +9,14 @@ use steps::step_constant;
 use steps::unround;
 use steps::update_key;
 ghost use mathlib.Core.Path.{_≡_};
+ghost use mathlib.Core.Bool.{true, false};
 ghost use Prim.Native.Nat.{_*_, _%_, _≤_};
 ghost use lib.ListN.{length};
 ghost use denote.Ref.{now};
 ghost use Rattle.published.specs.Bytes.{fromBytes, toBytes};
 ghost use Rattle.published.specs.Rounds.{constant};
-ghost use Rattle.published.specs.Calls.{keyCode, EncryptsByKey, DecryptsByKey};
-ghost use Rattle.published.specs.Calls64.{keyCode64, EncryptsByKey64, DecryptsByKey64};
+ghost use Rattle.published.specs.Calls.{keyCode, CiphersByKey};
+ghost use Rattle.published.specs.Calls64.{keyCode64, CiphersByKey64};
 ghost use Rattle.plain.specs.Inner.{stateOf, nibblesOf, Nibbles, keyOf, countOf, placeOf, uvOf, roundsFrom, unroundsFrom, roundsBy};
 
 // ---- what the members differ in, by the number of nibbles: GIFT-64 has sixteen, GIFT-128 thirty-two
@@ -158,7 +159,7 @@ fn key_code(key: usize, block: usize) -> u32
 }
 
 pub fn encrypt_by_key(key: &[u8], block: &mut [u8]) -> u32
-    ensures { λ r. ⌜ EncryptsByKey (now (key .entry)) (now (block .entry)) r (now (block .exit)) ⌝ }
+    ensures { λ r. ⌜ CiphersByKey false (now (key .entry)) (now (block .entry)) r (now (block .exit)) ⌝ }
 {
     let code = key_code(key.len(), block.len());
     if code != DONE {
@@ -170,7 +171,7 @@ pub fn encrypt_by_key(key: &[u8], block: &mut [u8]) -> u32
 }
 
 pub fn decrypt_by_key(key: &[u8], block: &mut [u8]) -> u32
-    ensures { λ r. ⌜ DecryptsByKey (now (key .entry)) (now (block .entry)) r (now (block .exit)) ⌝ }
+    ensures { λ r. ⌜ CiphersByKey true (now (key .entry)) (now (block .entry)) r (now (block .exit)) ⌝ }
 {
     let code = key_code(key.len(), block.len());
     if code != DONE {
@@ -196,7 +197,7 @@ fn key_code_64(key: usize, block: usize) -> u32
 }
 
 pub fn encrypt_64_by_key(key: &[u8], block: &mut [u8]) -> u32
-    ensures { λ r. ⌜ EncryptsByKey64 (now (key .entry)) (now (block .entry)) r (now (block .exit)) ⌝ }
+    ensures { λ r. ⌜ CiphersByKey64 false (now (key .entry)) (now (block .entry)) r (now (block .exit)) ⌝ }
 {
     let code = key_code_64(key.len(), block.len());
     if code != DONE {
@@ -208,7 +209,7 @@ pub fn encrypt_64_by_key(key: &[u8], block: &mut [u8]) -> u32
 }
 
 pub fn decrypt_64_by_key(key: &[u8], block: &mut [u8]) -> u32
-    ensures { λ r. ⌜ DecryptsByKey64 (now (key .entry)) (now (block .entry)) r (now (block .exit)) ⌝ }
+    ensures { λ r. ⌜ CiphersByKey64 true (now (key .entry)) (now (block .entry)) r (now (block .exit)) ⌝ }
 {
     let code = key_code_64(key.len(), block.len());
     if code != DONE {

@@ -13,13 +13,6 @@ unfoldable pub toBytes : ℕ → ℕ → List ℕ
 toBytes zero x = []
 toBytes (suc k) x = digit 256 x k ∷ toBytes k x
 
--- What a block's sixteen bytes are, each way: the number of 128 bits that they read as, and the bytes that a number is written as.
-abbrev pub readBlock : List ℕ → ℕ
-readBlock bytes = fromBytes bytes
-
-abbrev pub writeBlock : ℕ → List ℕ
-writeBlock x = toBytes 16 x
-
 -- every element is a byte: so said, it is what a slice of bytes is known to be
 abbrev pub Bytes : List ℕ → Type 0
 Bytes bs = (i : ℕ) → getD bs i 0 < 256

@@ -2,7 +2,7 @@
 use mathlib.Core.List.{List}
 use Prim.Native.Nat.{ℕ}
 use Rattle.bits.specs.Digit.{digit}
-use Rattle.published.specs.Bytes.{fromBytes, readBlock, writeBlock}
+use Rattle.published.specs.Bytes.{fromBytes, toBytes}
 use Rattle.published.specs.Rounds.{Pair, rounds, unrounds}
 use Rattle.published.specs.Key.{_‖_, pairs}
 
@@ -21,7 +21,7 @@ abbrev pub unrounds128 : List Pair → ℕ → ℕ → ℕ
 unrounds128 = unrounds 128 1
 
 unfoldable pub encrypted : List ℕ → List ℕ → List ℕ
-encrypted key block = writeBlock (rounds128 (pairsOf key) 0 (readBlock block))
+encrypted key block = toBytes 16 (rounds128 (pairsOf key) 0 (fromBytes block))
 
 unfoldable pub decrypted : List ℕ → List ℕ → List ℕ
-decrypted key block = writeBlock (unrounds128 (pairsOf key) 0 (readBlock block))
+decrypted key block = toBytes 16 (unrounds128 (pairsOf key) 0 (fromBytes block))

@@ -6,7 +6,7 @@ use mathlib.Core.List.{List, [], _∷_, _++_}
 use Prim.Native.Nat.{ℕ, zero, suc, _+_, _*_, _^_, _<_}
 use lib.Dec.{leb}
 use lib.ListN.{length, getD}
-use Rattle.published.specs.Bytes.{fromBytes, toBytes, readBlock, writeBlock, Bytes}
+use Rattle.published.specs.Bytes.{fromBytes, toBytes, Bytes}
 use Rattle.published.specs.Packing.{word, fromWords}
 
 pub record Order (read : List ℕ → ℕ) (write : ℕ → List ℕ) : Type 0 where
@@ -31,11 +31,11 @@ abbrev pub isOrder : ℕ → Bool
 isOrder order = leb order 1
 
 abbrev pub readIn : (order : ℕ) → List ℕ → ℕ
-readIn zero = readBlock
+readIn zero = fromBytes
 readIn (suc _) = readWords
 
 abbrev pub writeIn : (order : ℕ) → ℕ → List ℕ
-writeIn zero = writeBlock
+writeIn zero = toBytes 16
 writeIn (suc _) = writeWords
 
 -- what f does to a block, seen through an order: done to its bytes

@@ -14,7 +14,7 @@ use Rattle.published.proofs.Undone.{rounds-lt, unrounds-lt, rounds-append, unro
 use Rattle.primitives.specs.Packed.{stateOf}
 use Rattle.primitives.proofs.Blocks.{blockOf-stateOf}
 use Rattle.round_words.specs.Arranged.{pairsFrom}
-use Rattle.round_words.proofs.Pairs.{forty, five-pairs}
+use Rattle.round_words.proofs.Keeping.{forty, five-pairs}
 use Rattle.quintuple.specs.Quintuple.{quintupled, unquintupled}
 use Rattle.quintuple.proofs.Five.{all-good}
 

@@ -3,6 +3,7 @@
 // A field may hold any number of bytes or words, and all are lent: what a call refuses is a case too.
 use crate::text;
 use crate::text::BYTES;
+use crate::text::Part;
 use crate::text::args;
 use crate::text::field;
 use crate::text::four;
@@ -104,6 +105,23 @@ fn expanded(line: &[u8]) -> bool {
     says(line, b"left", front_words(&words, m)) & says_number(line, code)
 }
 
+fn row(call: u32, given: &[u32], out: &mut [u32]) -> u32 {
+    if call == 0xd {
+        return round_words::pairs(given, out);
+    }
+    round_words::words(given, out)
+}
+
+// The pairs that words stand for, and the words of pairs.
+fn rowed(call: u32, given: Part, line: &[u8]) -> bool {
+    let z = text::lent(line);
+    let words = given.words;
+    let mut out = z.words;
+    let m = within(z.m, &out);
+    let code = row(call, front_words(&words, given.m), &mut out[..m]);
+    says(line, b"left", front_words(&out, m)) & says_number(line, code)
+}
+
 fn new(line: &[u8]) -> bool {
     let k = key(line);
     let key = k.bytes;
@@ -199,6 +217,8 @@ pub(crate) fn right(call: u32, line: &[u8]) -> bool {
         0x1..=0xa => lent(call, line),
         0xb => expanded(line),
         0xc => new(line),
+        0xd => rowed(call, words(line), line),
+        0xe => rowed(call, field(line, b"pairs"), line),
         0x11..=0x1d => gives_one(line, word(call, args(line))),
         0x24 => gives(line, packed(line)),
         _ => gives(line, state(call, line)),

@@ -32,6 +32,16 @@ pairsFrom k [] = []
 pairsFrom k (v ∷ []) = []
 pairsFrom k (v ∷ u ∷ ws) = record { u = stands (suc k) u; v = stands (suc k) v } ∷ pairsFrom (suc k % 5) ws
 
+-- pairs in a row of numbers, V and then U of each; and the pairs of such a row
+unfoldable pub inRow : List Pair → List ℕ
+inRow [] = []
+inRow (p ∷ ps) = p .v ∷ p .u ∷ inRow ps
+
+unfoldable pub ofRow : List ℕ → List Pair
+ofRow [] = []
+ofRow (v ∷ []) = []
+ofRow (v ∷ u ∷ ns) = record { u = u; v = v } ∷ ofRow ns
+
 -- the round constants as a table of words: a third key word, the flipped bit on top, kept in the arrangement of its round
 unfoldable pub constantWord : ℕ → ℕ → ℕ
 constantWord k r = arranged (suc k) (2 ^ 31 + constant (suc r))

@@ -94,6 +94,8 @@ extern "C" {
         block_len: usize,
     ) -> u32;
     fn gift_expand(key: *const u8, key_len: usize, words: *mut u32, words_len: usize) -> u32;
+    fn gift_pairs(words: *const u32, words_len: usize, pairs: *mut u32, pairs_len: usize) -> u32;
+    fn gift_words(pairs: *const u32, pairs_len: usize, words: *mut u32, words_len: usize) -> u32;
     fn gift_encrypt_blocks(
         order: u32,
         key: *const u8,
@@ -340,6 +342,18 @@ pub fn decrypt_by_words_in(order: u32, words: &[u32], block: &mut [u8]) -> Resul
 pub fn expand(key: &[u8], words: &mut [u32]) -> Result<(), Refusal> {
     linked();
     answer(unsafe { gift_expand(key.as_ptr(), key.len(), words.as_mut_ptr(), words.len()) })
+}
+
+/// Fills `pairs` with V and then U of each round, as 80 round words stand for them. Refusals: 4, 3.
+pub fn pairs(words: &[u32], pairs: &mut [u32]) -> Result<(), Refusal> {
+    linked();
+    answer(unsafe { gift_pairs(words.as_ptr(), words.len(), pairs.as_mut_ptr(), pairs.len()) })
+}
+
+/// Fills `words` with the 80 round words that stand for 80 such numbers, V and then U of each round. Refusals: 4, 3.
+pub fn words(pairs: &[u32], words: &mut [u32]) -> Result<(), Refusal> {
+    linked();
+    answer(unsafe { gift_words(pairs.as_ptr(), pairs.len(), words.as_mut_ptr(), words.len()) })
 }
 
 /// Encrypts many blocks by a key, in order 0: block n of the output from block n of the input, each by itself. Refusals: 1, 2, 3.

@@ -11,6 +11,7 @@ mod counter;
 mod gift64;
 mod mac;
 mod refusal;
+mod words;
 
 use core::fmt;
 
@@ -20,6 +21,7 @@ pub use gift64::Gift64;
 pub use bundle::{Answer, Bundle, Edition, Iter, Row, Value, Writer};
 pub use mac::{Mac, MacState};
 pub use refusal::Refusal;
+pub use words::{Pair, RoundWords};
 
 /// A cipher instance: the 80 round words of its key.
 #[derive(Clone)]

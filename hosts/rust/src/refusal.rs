@@ -12,7 +12,7 @@ pub enum Refusal {
     BadBlockLength = 2,
     /// 3: the output is not as long as the input.
     BadOutputLength = 3,
-    /// 4: the round words are not 80.
+    /// 4: the round words, or the numbers of pairs, are not 80.
     BadWordCount = 4,
     /// 5: a lane number above 15.
     BadLane = 5,
@@ -100,7 +100,7 @@ impl fmt::Display for Refusal {
             Refusal::BadKeyLength => "the key is not of 16 bytes",
             Refusal::BadBlockLength => "a block is not of 16 bytes",
             Refusal::BadOutputLength => "the output is not as long as the input",
-            Refusal::BadWordCount => "the round words are not 80",
+            Refusal::BadWordCount => "the round words, or the numbers of pairs, are not 80",
             Refusal::BadLane => "there is no lane of this number",
             Refusal::LaneNotIdle => "the lane is not idle",
             Refusal::LaneNotFinished => "the lane is not finished",

@@ -3,8 +3,7 @@ use mathlib.Core.Path.{ap, _∙_}
 use lib.ListN.{length, replicate}
 use borrow.Author.Needs.{needs}
 use denote.Ref.{now}
-use Rattle.key_schedule.specs.Expand.{expanded}
-use Rattle.gift128.specs.Calls.{newCode}
+use Rattle.key_schedule.specs.Expand.{expandCode, expanded}
 use Rattle.cmac.specs.Standard.{zeroBlock}
 use Rattle.cmac.specs.Calls.{startedBy}
 use Rattle.cmac.proofs.Pieces.{done-after}
@@ -13,7 +12,7 @@ use Rattle.cmac.proofs.start.Tie as tie
 
 returns : tie.Need-returns
 unfolding startedBy zeroBlock
-returns c = record { is = c .before .before .new .ensures .is; leaves = ap startedBy (c .before .before .new .ensures .leaves) ∙ done-after startedBy (newCode (length (now (c .before .before .before .before .args .key)))) (expanded (now (c .before .before .before .before .args .key))) (replicate 80 0) }
+returns c = record { is = c .before .before .new .ensures .is; leaves = ap startedBy (c .before .before .new .ensures .leaves) ∙ done-after startedBy (expandCode (length (now (c .before .before .before .before .args .key))) 80) (expanded (now (c .before .before .before .before .args .key))) (replicate 80 0) }
 
 pub start-spec : {M : Type 1} → statement M
 start-spec = tie.close (tie.spec (λ c κs. search needs) returns)

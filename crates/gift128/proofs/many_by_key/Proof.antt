@@ -7,8 +7,9 @@ use borrow.Author.Needs.{needs}
 use denote.Ref.{now}
 use Rattle.answers.proofs.Outcome.{refuses, done}
 use Rattle.published.specs.Seen.{seen}
+use Rattle.published.proofs.Calls.{many-passed}
 use Rattle.gift128.specs.Calls.{orderCode, roundsBy, allBlocks}
-use Rattle.gift128.proofs.Answers.{order-passed, many-passed}
+use Rattle.gift128.proofs.Answers.{order-passed}
 use Rattle.gift128.proofs.Blocks.{filled, crossed-key}
 use Rattle.gift128.proofs.many_by_key.Statement.{statement}
 use Rattle.gift128.proofs.many_by_key.Tie as tie
@@ -20,7 +21,7 @@ all-requires : tie.Need-all-requires
 all-requires c κs =
     let at = c .before .before .before .before .before in
     let o = order-passed _ _ (sym (at .before .in-order .ensures ∙ ap (orderCode (at .before .before .before .before .before .before .args .order)) (at .before .before .many-code .ensures)) ∙ at .if1 .left) in
-    let passed = many-passed _ _ _ (o .1) in
+    let passed = many-passed 16 _ _ _ (o .1) in
     (o .0, (search needs, (passed .1, passed .2)))
 
 returns-2 : tie.Need-returns-2
@@ -30,7 +31,7 @@ returns-2 c =
     let a = at .before .before .before .before .before .before .args in
     let key : List ℕ = now (a .key) in
     let input : List ℕ = now (a .input) in
-    let long : length key ≡ 16 = many-passed _ _ _ (order-passed _ _ (sym (at .before .in-order .ensures ∙ ap (orderCode (at .before .before .before .before .before .before .args .order)) (at .before .before .many-code .ensures)) ∙ at .if1 .left) .1) .0 in
+    let long : length key ≡ 16 = many-passed 16 _ _ _ (order-passed _ _ (sym (at .before .in-order .ensures ∙ ap (orderCode (at .before .before .before .before .before .before .args .order)) (at .before .before .many-code .ensures)) ∙ at .if1 .left) .1) .0 in
     done (at .before .in-order .ensures ∙ ap (orderCode (at .before .before .before .before .before .before .args .order)) (at .before .before .many-code .ensures)) (at .if1 .left)
     (c .before .before .all .ensures ∙ ap (λ (ws : List ℕ). allBlocks (seen (a .order) (roundsBy (a .back) ws)) input) (expanding .precompute-rkeys .ensures .leaves ∙ filled key long)
     ∙ ap (λ (f : List ℕ → List ℕ). allBlocks f input) (fun-ext (crossed-key (a .order) (a .back) key)))

@@ -7,7 +7,7 @@ use borrow.Author.Needs.{needs}
 use denote.Ref.{now}
 use Rattle.answers.proofs.Outcome.{refuses, done}
 use Rattle.published.specs.Blocks.{allOf}
-use Rattle.published.proofs.Calls64.{many-passed-64}
+use Rattle.published.proofs.Calls.{many-passed}
 use Rattle.gift64.proofs.Crossing.{crossed-key}
 use Rattle.gift64.proofs.many_by_key.Statement.{statement}
 use Rattle.gift64.proofs.many_by_key.Tie as tie
@@ -17,7 +17,7 @@ passed : (c : tie.Else1)
     → (length (now (c .before .before .before .before .before .args .key)) ≡ 16)
     × (length (now (c .before .before .before .before .before .args .input)) % 8 ≡ 0)
     × (length (now (c .before .before .before .before .before .args .output)) ≡ length (now (c .before .before .before .before .before .args .input)))
-passed c = many-passed-64 _ _ _ (sym (c .before .many-code .ensures) ∙ c .if1 .left)
+passed c = many-passed 8 _ _ _ (sym (c .before .many-code .ensures) ∙ c .if1 .left)
 
 all-requires : tie.Need-all-requires
 all-requires c κs = let at = c .before .before .before in (search needs, (passed at .1, passed at .2))

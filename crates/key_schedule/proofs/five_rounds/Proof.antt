@@ -1,10 +1,11 @@
 -- `key_schedule::five_rounds` makes the words of five rounds of those of the first two.
 use mathlib.Core.Path.{sym, ap, _∙_}
 use Rattle.round_words.specs.Arranged.{arranged}
+use Rattle.round_words.proofs.Arrangements.{arranged-five}
 use Rattle.key_schedule.specs.InnerUpdate.{updated}
 use Rattle.key_schedule.specs.InnerTens.{fiveRounds}
 use Rattle.key_schedule.proofs.Updates.{updated-lt}
-use Rattle.key_schedule.proofs.TenWords.{same-ten, arranged-five}
+use Rattle.key_schedule.proofs.TenWords.{same-ten}
 use Rattle.key_schedule.proofs.five_rounds.Statement.{statement}
 use Rattle.key_schedule.proofs.five_rounds.Tie as tie
 

@@ -1,6 +1,6 @@
 -- `gift128::orders::many_code` tries 1, 2, 3.
 use borrow.Author.Tests.{eq-eqb, ne-eqb}
-use Rattle.gift128.specs.Calls.{manyCode}
+use Rattle.published.specs.Calls.{manyCode}
 use Rattle.gift128.proofs.orders.many_code.Statement.{statement}
 use Rattle.gift128.proofs.orders.many_code.Tie as tie
 

@@ -1,11 +1,11 @@
--- `key_schedule::rearrange_rkey_3` puts a word into arrangement 4, by the test.
+-- `round_words::rearrange_rkey_3` puts a word into arrangement 4, by the test.
 use mathlib.Core.List.{[], _∷_}
 use Rattle.bits.specs.Digit.{digit, bit}
 use Rattle.published.specs.Rounds.{P}
 use Rattle.round_words.specs.Arranged.{N, nibbleAt}
-use Rattle.key_schedule.proofs.Exchanges.{_with_, swaps-arrange}
-use Rattle.key_schedule.proofs.rearrange_rkey_3.Statement.{statement}
-use Rattle.key_schedule.proofs.rearrange_rkey_3.Tie as tie
+use Rattle.round_words.proofs.Exchanges.{_with_, swaps-arrange}
+use Rattle.round_words.proofs.rearrange_rkey_3.Statement.{statement}
+use Rattle.round_words.proofs.rearrange_rkey_3.Tie as tie
 
 returns : tie.Need-returns
 unfolding bit digit nibbleAt N P
