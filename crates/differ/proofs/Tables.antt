@@ -3,12 +3,11 @@ use mathlib.Core.Path.{_≡_, refl, sym, ap, _∙_}
 use mathlib.Core.Bool.{Bool, true, false, cond}
 use mathlib.Core.List.{List, [], _∷_}
 use Prim.Native.Nat.{ℕ, zero, suc, _+_, _<_, _≤_}
-use native.Mathlib.Nat.{not-suc-le-zero, le-of-suc-le-suc}
+use native.Mathlib.Nat.{le-of-suc-le-suc}
 use native.Mathlib.Omega.{arith}
-use lib.Dec.{eqb, lit<}
+use lib.Dec.{eqb}
 use lib.ListN.{length}
 use borrow.Author.Tests.{ne-eqb}
-use Rattle.answers.specs.Order.{ifDone}
 use Rattle.answers.proofs.Outcome.{if-done}
 use Rattle.bundle_format.specs.Format.{knows, firstBody}
 use Rattle.bundle_format.specs.Reader.{countOf, endOf, rowsOf, soundRows, readCode, REFUSED, ABSENT, VALUE, UNKNOWN, bare, tell, tellIn, tellAt, opened, lookedUp, entryOf}

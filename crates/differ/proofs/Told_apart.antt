@@ -2,11 +2,11 @@
 use mathlib.Core.Path.{_≡_, refl, sym, ap, ap₂, _∙_}
 use mathlib.Core.Bool.{Bool, true, false, cond, not, _&&_, _||_, false≢true}
 use mathlib.Core.List.{List, [], _∷_}
-use Prim.Native.Nat.{ℕ, _+_, _*_, _^_, _≤_}
+use Prim.Native.Nat.{ℕ, _*_, _≤_}
 use native.Mathlib.Omega.{arith}
 use lib.Dec.{eqb}
 use lib.ListN.{length, drop, length-drop}
-use borrow.Author.Tests.{eq-eqb, eqb-true, eqb-false, ne-eqb}
+use borrow.Author.Tests.{eq-eqb, eqb-true, ne-eqb}
 use Rattle.bits.proofs.Truth.{both, together}
 use Rattle.published.specs.Bytes.{Bytes}
 use Rattle.cmac.specs.Calls.{same}
@@ -15,7 +15,7 @@ use Rattle.bundle_format.specs.Format.{knows, firstBody}
 use Rattle.bundle_format.specs.Reader.{countOf, endOf, rowsOf, ABSENT, VALUE, UNKNOWN, bare, tell, tellIn, readCode, Answer, value, absent, unknown, refused, meant}
 use Rattle.bundle_format.specs.declared.Row.{Row}
 use Rattle.bundle_format.specs.declared.Told.{Told}
-use Rattle.bundle_format.proofs.Rows.{bytes-drop, AllFit, none, more, rows-fit}
+use Rattle.bundle_format.proofs.Rows.{bytes-drop, AllFit, more, rows-fit}
 use Rattle.bundle_format.proofs.Accepted.{Whole, accepts}
 use Rattle.differ.specs.Difference.{toldOf, bodyOf, alike}
 use Rattle.differ.specs.Promises.{answer}

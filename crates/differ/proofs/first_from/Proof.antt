@@ -1,12 +1,11 @@
 -- `differ::first_from`: every entry before place i has a lower id.
-use mathlib.Core.Path.{_≡_, _∙_}
-use mathlib.Core.List.{List}
+use mathlib.Core.Path.{_∙_}
 use Prim.Native.Nat.{ℕ, _-_, _<_, _≤_}
 use native.Mathlib.Omega.{arith}
 use borrow.Author.Count.{below-none, below-more}
 use denote.Ref.{now}
 use Rattle.bundle_format.specs.Reader.{rowsOf, tellAt}
-use Rattle.differ.proofs.Tables.{count-is, few, entry-told, first-there, first-none}
+use Rattle.differ.proofs.Tables.{entry-told, first-there, first-none}
 use Rattle.differ.proofs.first_from.Statement.{statement}
 use Rattle.differ.proofs.first_from.Tie as tie
 

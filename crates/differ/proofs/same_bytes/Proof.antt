@@ -3,7 +3,6 @@ use mathlib.Core.Path.{_≡_, refl, sym, _∙_}
 use Prim.Native.Nat.{_-_, _≤_}
 use native.Mathlib.Omega.{arith}
 use lib.ListN.{length, drop}
-use denote.Ref.{now}
 use Rattle.cmac.specs.Calls.{same}
 use Rattle.differ.proofs.Compared_bytes.{other-length, other-byte, same-byte, no-byte-left}
 use Rattle.differ.proofs.same_bytes.Statement.{statement}

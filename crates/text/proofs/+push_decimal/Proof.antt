@@ -1,19 +1,19 @@
--- `lines::push_decimal` ends, since a tenth of a number of two digits is less, and pushes the last digit after the digits of that tenth.
+-- `text::push_decimal` ends, since a tenth of a number of two digits is less, and pushes the last digit after the digits of that tenth.
 use mathlib.Core.Path.{sym, ap, _∙_}
 use mathlib.Core.List.{List, [], _∷_, _++_, append-assoc}
 use Prim.Native.Nat.{ℕ, _+_, _/_, _%_, _<_}
 use native.Mathlib.Omega.{arith}
 use borrow.Fn.Kinds.{In}
 use borrow.Fn.PlainCycle.{Measures, is, falls, and}
-use Rattle.lines.specs.Decimal.{decimalOf}
-use Rattle.lines.specs.Written.{written}
-use Rattle.lines.proofs.Numerals.{decimal-short, decimal-long}
-use Rattle.lines.proofs.+push_decimal.{statement}
-use Rattle.lines.proofs.+push_decimal.Tie.{close}
-use Rattle.lines.proofs.+push_decimal.Lts-push_decimal as lts
-use Rattle.lines.proofs.push.Reads as push
-use Rattle.lines.proofs.push_decimal.Kinds as kinds
-use Rattle.lines.proofs.push_decimal.Reads as own
+use Rattle.text.specs.Decimal.{decimalOf}
+use Rattle.text.specs.Written.{written}
+use Rattle.text.proofs.Numerals.{decimal-short, decimal-long}
+use Rattle.text.proofs.+push_decimal.{statement}
+use Rattle.text.proofs.+push_decimal.Tie.{close}
+use Rattle.text.proofs.+push_decimal.Lts-push_decimal as lts
+use Rattle.text.proofs.push.Reads as push
+use Rattle.text.proofs.push_decimal.Kinds as kinds
+use Rattle.text.proofs.push_decimal.Reads as own
 
 abbrev μ : Measures 0 kinds.ps ℕ
 μ κs a = a .1 .0

@@ -1,8 +1,8 @@
--- `lines::push` stores a byte behind those that are there.
+-- `text::push` stores a byte behind those that are there.
 use borrow.Author.Needs.{needs}
-use Rattle.lines.proofs.Texts.{pushed, full}
-use Rattle.lines.proofs.push.Statement.{statement}
-use Rattle.lines.proofs.push.Tie as tie
+use Rattle.text.proofs.Texts.{pushed, full}
+use Rattle.text.proofs.push.Statement.{statement}
+use Rattle.text.proofs.push.Tie as tie
 
 returns : tie.Need-returns
 returns c l e = pushed l (c .before .before .args .b) (c .before .before .args .t) e (c .before .if1 .taken)

@@ -10,9 +10,8 @@ use lib.Dec.{leb}
 use lib.ListN.{length, getD, take, set, replicate, length-append, length-replicate}
 use lib.Seq.{set-append-seam, take-set-lt, take-append-le, take-append-seam, take-suc, take-all, take-take}
 use borrow.Author.Tests.{leb-true, leb-false}
-use Rattle.lines.specs.declared.Text.{Text}
-use Rattle.lines.specs.Written.{written}
-use Rattle.lines.specs.Session.{shown}
+use Rattle.text.specs.declared.Text.{Text}
+use Rattle.text.specs.Written.{written, shown}
 
 pub same-text : (s t : Text) → s .bytes ≡ t .bytes → s .count ≡ t .count → s ≡ t
 same-text s t p q = λ i. record { bytes = p i; count = q i }

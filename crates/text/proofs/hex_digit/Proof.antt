@@ -1,11 +1,11 @@
--- `lines::hex_digit` picks the digit from its run.
+-- `text::hex_digit` picks the digit from its run.
 use mathlib.Core.Path.{_∙_, sym}
 use borrow.Author.Needs.{needs}
 use borrow.Author.Tests.{lt-ltb, le-ltb}
 use Rattle.bits.proofs.Computed.{cond-true, cond-false}
-use Rattle.lines.proofs.Numerals.{digit-is}
-use Rattle.lines.proofs.hex_digit.Statement.{statement}
-use Rattle.lines.proofs.hex_digit.Tie as tie
+use Rattle.text.proofs.Numerals.{digit-is}
+use Rattle.text.proofs.hex_digit.Statement.{statement}
+use Rattle.text.proofs.hex_digit.Tie as tie
 
 returns : tie.Need-returns
 returns c = sym (cond-true _ _ _ (lt-ltb _ _ (c .if1 .taken))) ∙ digit-is (c .before .args .d) (c .before .pre)

@@ -1,14 +1,14 @@
--- `lines::push_all` holds, at each turn, the bytes passed so far.
+-- `text::push_all` holds, at each turn, the bytes passed so far.
 use mathlib.Core.Path.{_≡_, refl, ap, _∙_}
 use mathlib.Core.List.{List, _++_, append-nil}
 use Prim.Native.Nat.{ℕ, _≤_, _-_}
 use native.Mathlib.Omega.{arith}
 use lib.ListN.{length, take}
 use lib.Seq.{take-all}
-use Rattle.lines.specs.Written.{written}
-use Rattle.lines.proofs.Texts.{grows}
-use Rattle.lines.proofs.push_all.Statement.{statement}
-use Rattle.lines.proofs.push_all.Tie as tie
+use Rattle.text.specs.Written.{written}
+use Rattle.text.proofs.Texts.{grows}
+use Rattle.text.proofs.push_all.Statement.{statement}
+use Rattle.text.proofs.push_all.Tie as tie
 
 abbrev Inv-loop : tie.InvT-loop
 Inv-loop bs r₀ i₀ r i = (i ≤ length bs) × ((l : List ℕ) → r₀ ≡ written l → r ≡ written (l ++ take i bs))

@@ -1,12 +1,12 @@
--- `lines::push_byte` pushes the two digits of a byte.
+-- `text::push_byte` pushes the two digits of a byte.
 use mathlib.Core.Path.{ap, ap₂, _∙_}
 use mathlib.Core.List.{[], _∷_, _++_, append-assoc}
 use Prim.Native.Nat.{ℕ}
 use borrow.Author.Needs.{needs}
-use Rattle.lines.specs.Hex.{hexOf}
-use Rattle.lines.specs.Written.{written}
-use Rattle.lines.proofs.push_byte.Statement.{statement}
-use Rattle.lines.proofs.push_byte.Tie as tie
+use Rattle.text.specs.Hex.{hexOf}
+use Rattle.text.specs.Written.{written}
+use Rattle.text.proofs.push_byte.Statement.{statement}
+use Rattle.text.proofs.push_byte.Tie as tie
 
 returns : tie.Need-returns
 unfolding hexOf
