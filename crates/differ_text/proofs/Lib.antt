@@ -1,0 +1,4 @@
+-- Laws of the text.
+pub mod Laid
+pub mod Numbers
+pub mod Sides
