@@ -236,7 +236,14 @@ fn put_refusals(out: &mut [u8], first: u32, second: u32) -> usize
 
 // Piece k of what is printed of two bundles, by what comparing them gave: of the rows each has a line, and then comes a last piece. All of it, or as much as fits, is laid in the
 // buffer from its start; the number of its bytes there is told.
-pub fn piece(compared: Compared, rows: &[u32], k: u32, first: &[u8], second: &[u8], out: &mut [u8]) -> usize
+pub fn piece(
+    compared: Compared,
+    rows: &[u32],
+    k: u32,
+    first: &[u8],
+    second: &[u8],
+    out: &mut [u8],
+) -> usize
     ensures { λ r. ⌜ Lays (pieceOf compared (now (rows .entry)) (now (first .entry)) (now (second .entry)) k) (now (out .entry)) r (now (out .exit)) ⌝ }
 {
     if compared.first != 0 {
