@@ -1,4 +1,6 @@
--- Laws of the text.
+-- Laws of the text: laid in a buffer; numbers; answers by state and kind; what an accepted bundle answers; all that is written.
 pub mod Laid
 pub mod Numbers
 pub mod Sides
+pub mod Accepted
+pub mod Whole

@@ -1,6 +1,6 @@
 -- `gift_differ::show` is safe and ends. The measure is the number of pieces that are left.
 use mathlib.Core.Path.{_≡_, refl, _∙_}
-use Prim.Native.Nat.{_+_, _-_, _≤_}
+use Prim.Native.Nat.{_-_, _≤_}
 use native.Mathlib.Omega.{arith}
 use lib.ListN.{length}
 use Rattle.differ_text.proofs.Laid.{within}
