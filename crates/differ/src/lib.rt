@@ -233,10 +233,11 @@ pub fn compare(key: &[u8], first: &[u8], second: &[u8], rows: &mut [u32]) -> Com
         };
     }
     if two.code != DONE {
+        let code = two.code;
         return Compared {
-            code: two.code,
+            code,
             first: 0,
-            second: two.code,
+            second: code,
             count: 0,
         };
     }

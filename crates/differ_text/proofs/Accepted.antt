@@ -87,7 +87,7 @@ text-short : (body : List ℕ) → goodValue 2 body ≡ true → length body ≤
 unfolding goodValue
 text-short body e = leb-true (length body) 255 e
 
-no-kind : (k : ℕ) (body : List ℕ) → goodValue (suc (suc (suc k))) body ≡ true → ⊥
+pub no-kind : (k : ℕ) (body : List ℕ) → goodValue (suc (suc (suc k))) body ≡ true → ⊥
 unfolding goodValue
 no-kind k body e = false≢true e
 

@@ -12,7 +12,7 @@ use text::push_decimal;
 ghost use mathlib.Core.Path.{_≡_};
 ghost use mathlib.Core.List.{List, _++_, _∷_, []};
 ghost use Prim.Native.Nat.{ℕ, _+_, _*_, _≤_, min};
-ghost use lib.ListN.{length, take, drop, getD};
+ghost use lib.ListN.{take, getD};
 ghost use denote.Ref.{now};
 ghost use Rattle.published.specs.Bytes.{fromBytes};
 ghost use Rattle.text.specs.Decimal.{decimalOf};
