@@ -6,6 +6,7 @@
     oracle/differ_model.py --program FILE.. holds the program, run as FILE.. in a folder that holds the three files, to the model's text
 """
 import ctypes
+import functools
 import os
 import random
 import subprocess
@@ -19,6 +20,11 @@ SEED = 2026
 ROWS = 512
 
 
+@functools.lru_cache(256)
+def read(key, b):
+    return bundles.read(2, key, b)
+
+
 def answers(entries, b):
     """id -> how it stands, for a reader of edition 2: unknown, or a kind and a body."""
     return {e[0]: (e[3], b[e[1]:e[1] + e[2]]) if e[3] in bundles.KINDS[2] else "unknown" for e in entries}
@@ -26,7 +32,7 @@ def answers(entries, b):
 
 def sides(key, first, second):
     """Both numbers, and the list of (id, first's answer, second's) if both are 0."""
-    (f, one), (s, two) = bundles.read(2, key, first), bundles.read(2, key, second)
+    (f, one), (s, two) = read(key, first), read(key, second)
     if f or s:
         return f, s, []
     a, b = answers(one, first), answers(two, second)
@@ -36,7 +42,7 @@ def sides(key, first, second):
 def rows(key, first, second):
     """What the call tells: both numbers, and nine numbers a line."""
     f, s, lines = sides(key, first, second)
-    looked = [dict((e[0], e) for e in bundles.read(2, key, b)[1] or []) for b in (first, second)]
+    looked = [dict((e[0], e) for e in read(key, b)[1] or []) for b in (first, second)]
     out = []
     for id_, *both in lines:
         out.append(id_)

@@ -1,5 +1,6 @@
 -- `differ::advance`: the ids before the next one of either bundle are absent in both.
 use mathlib.Core.Path.{_∙_}
+use native.Mathlib.Omega.{arith}
 use borrow.Author.Needs.{needs}
 use denote.Ref.{now}
 use Rattle.differ.proofs.Tables.{look-told, within}
@@ -13,7 +14,7 @@ returns c =
     let s = c2 .before .before .before .before .before in
     let a = s .args in
     step-ends (now (a .first)) (now (a .second)) (a .low) (c2 .least .result) (c2 .before .before .first-from .result) (c2 .before .first-from2 .result) (c2 .before .before .first-from .ensures) (c2 .before .first-from2 .ensures) (c2 .least .ensures)
-    (s .pre .1 .1) (c .before .if1 .taken) (c .ended .result) (c .ended .ensures .0) (c .ended .ensures .1)
+    (s .pre .1 .1) (omega (arith, c .before .if1 .taken)) (c .ended .result) (c .ended .ensures .0) (c .ended .ensures .1)
 
 same-answer-requires : tie.Need-same-answer-requires
 same-answer-requires c κs =
