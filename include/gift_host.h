@@ -392,7 +392,7 @@ typedef struct gift_compared {
 
 /* Compares two bundles by one key: a row for each id whose two answers differ, ids rising, each once. Unknown is the same as unknown, a value is its kind and body, and
  * must-know is no part of it. The rows are passed as numbers, `(uint32_t *)rows, 9 * count`. Refusals: the first bundle's number, the second's, 25 if the rows lent are fewer
- * than `count`, which is told all the same; then no row is written. Rows past the count stay. Stack: 3 KiB. */
+ * than `count`, which is told all the same; then no row is written. Rows past the count stay. */
 gift_compared gift_bundle_differ(const uint8_t *key, size_t key_len, const uint8_t *first, size_t first_len, const uint8_t *second, size_t second_len,
                                  uint32_t *rows, size_t rows_len);
 
