@@ -65,7 +65,7 @@ uint32_t gift_host_edition(void);
 #define GIFT_MALFORMED 22         /* a bundle breaks the layout */
 #define GIFT_MUST_KNOW 23         /* a bundle has a setting that must be known, of a kind that the reader does not know */
 #define GIFT_BAD_LIST 24          /* rows and pool are no list of settings of the writer's edition that one bundle can hold */
-#define GIFT_SHORT_OUTPUT 25      /* the output is shorter than the bundle */
+#define GIFT_SHORT_OUTPUT 25      /* the output is shorter than the bundle, or rows lent are fewer than the ids that differ */
 
 /* The orders: how the sixteen bytes of a block are seen as its 128 bits, and these as bytes again. In either, the rounds and the key
  * are the same, and bit i of word j (gift_state) is bit 4i+j of the block. What the library did before edition 5 is order 0. */
@@ -376,6 +376,34 @@ gift_written gift_bundle_write_1(const uint8_t *key, size_t key_len, const uint3
 gift_written gift_bundle_write_2(const uint8_t *key, size_t key_len, const uint32_t *rows, size_t rows_len, const uint8_t *pool, size_t pool_len,
                                  uint8_t *out, size_t out_len);
 
+/* A setting that two bundles answer differently, by the reader of edition 2: its id, and how it stands in the first and in the second. A value's body is `length` bytes
+ * of its own bundle at `at`; what does not apply is 0. */
+typedef struct gift_difference {
+    uint32_t id;
+    struct {
+        uint32_t state;  /* GIFT_ABSENT, GIFT_UNKNOWN, GIFT_VALUE */
+        uint32_t kind;
+        uint32_t at;
+        uint32_t length;
+    } first, second;
+} gift_difference;
+
+#define GIFT_DIFFERENCES 512 /* rows that are always enough */
+
+/* What comparing tells. */
+typedef struct gift_compared {
+    uint32_t code;   /* 0, or the first refusal that applies */
+    uint32_t first;  /* the first bundle's number: 0, 1, 20, 21, 22, 23 */
+    uint32_t second; /* the second's */
+    uint32_t count;  /* how many ids differ; 0 if a bundle is refused */
+} gift_compared;
+
+/* Compares two bundles by one key: a row for each id whose two answers differ, ids rising, each once. Unknown is the same as unknown, a value is its kind and body, and
+ * must-know is no part of it. The rows are passed as numbers, `(uint32_t *)rows, 9 * count`. Refusals: the first bundle's number, the second's, 25 if the rows lent are fewer
+ * than `count`, which is told all the same; then no row is written. Rows past the count stay. */
+gift_compared gift_bundle_differ(const uint8_t *key, size_t key_len, const uint8_t *first, size_t first_len, const uint8_t *second, size_t second_len,
+                                 uint32_t *rows, size_t rows_len);
+
 /* The layout above, held to the compiler's where it can say so. */
 #if defined(__cplusplus) && __cplusplus >= 201103L
 #define GIFT_HOST_HOLDS(test) static_assert(test, #test)
@@ -396,6 +424,8 @@ GIFT_HOST_HOLDS(sizeof(gift_asked) == 24);
 GIFT_HOST_HOLDS(sizeof(gift_bundle) == 16);
 GIFT_HOST_HOLDS(sizeof(gift_row) == 16);
 GIFT_HOST_HOLDS(sizeof(gift_written) == 8);
+GIFT_HOST_HOLDS(sizeof(gift_difference) == 36);
+GIFT_HOST_HOLDS(sizeof(gift_compared) == 16);
 #ifdef offsetof
 GIFT_HOST_HOLDS(offsetof(gift_lane, direction) == 1);
 GIFT_HOST_HOLDS(offsetof(gift_lane, owner) == 2);

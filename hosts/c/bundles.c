@@ -355,6 +355,107 @@ static void counts(const char *what, unsigned given[3][26], unsigned from, unsig
     }
 }
 
+/* ---- where two bundles differ ---- */
+
+static uint32_t differ_given[26], differing, alike_ids;
+static uint32_t lent_rows[ROUND + 9 * GIFT_DIFFERENCES + ROUND], wanted_rows[ROUND + 9 * GIFT_DIFFERENCES + ROUND];
+
+static int same_answer(gift_told a, const uint8_t *b, gift_told u, const uint8_t *c)
+{
+    if (a.state != u.state || a.state != GIFT_VALUE)
+        return a.state == u.state;
+    return a.kind == u.kind && a.length == u.length && memcmp(b + a.at, c + u.at, a.length) == 0;
+}
+
+/* By the model: every id of either table, rising. The rows' numbers, and how many ids differ. */
+static uint32_t model_differ(const uint8_t *b, const uint8_t *c, uint32_t *out)
+{
+    uint32_t ids[512], n = 0, count = 0;
+    for (uint32_t i = 0; i < big(b + 2, 2); i++)
+        ids[n++] = big(b + 8 + 12 * i, 4);
+    for (uint32_t i = 0; i < big(c + 2, 2); i++)
+        ids[n++] = big(c + 8 + 12 * i, 4);
+    for (uint32_t i = 1; i < n; i++)
+        for (uint32_t j = i; j > 0 && ids[j - 1] > ids[j]; j--) {
+            uint32_t id = ids[j];
+            ids[j] = ids[j - 1];
+            ids[j - 1] = id;
+        }
+    for (uint32_t i = 0; i < n; i++) {
+        if (i > 0 && ids[i] == ids[i - 1])
+            continue;
+        gift_told a = asked_of(2, 0, b, ids[i]), u = asked_of(2, 0, c, ids[i]);
+        if (same_answer(a, b, u, c)) {
+            alike_ids++;
+            continue;
+        }
+        uint32_t row[9] = {ids[i], a.state, a.kind, a.at, a.length, u.state, u.kind, u.at, u.length};
+        memcpy(out + 9 * count++, row, sizeof row);
+    }
+    return count;
+}
+
+static void differ_both(const uint8_t *b, size_t b_len, const uint8_t *c, size_t c_len, size_t key_len)
+{
+    uint32_t first = read_number(2, key, key_len, b, b_len), second = read_number(2, key, key_len, c, c_len);
+    uint32_t found[9 * GIFT_DIFFERENCES], count = first || second ? 0 : model_differ(b, c, found);
+    size_t rooms[] = {9 * GIFT_DIFFERENCES, 9 * count, count ? 9 * count - 1 : 0, 9 * count + below(9)};
+    differing += count;
+    for (unsigned i = 0; i < 4; i++) {
+        size_t room = rooms[i] > 9 * GIFT_DIFFERENCES ? 9 * GIFT_DIFFERENCES : rooms[i];
+        uint32_t code = first ? first : second ? second : 9 * count > room ? GIFT_SHORT_OUTPUT : 0;
+        for (size_t j = 0; j < ROUND + room + ROUND; j++)
+            lent_rows[j] = wanted_rows[j] = (uint32_t)(j * 2654435761u + count);
+        if (code == 0)
+            memcpy(wanted_rows + ROUND, found, 36 * count);
+        gift_compared r = gift_bundle_differ(key, key_len, b, b_len, c, c_len, lent_rows + ROUND, room);
+        calls++;
+        differ_given[code]++;
+        if (r.code != code || r.first != first || r.second != second || r.count != count || memcmp(lent_rows, wanted_rows, 4 * (ROUND + room + ROUND)) != 0)
+            if (differs("a comparison"))
+                printf("  number %u and not %u, %u and not %u ids\n", r.code, code, r.count, count);
+    }
+}
+
+static uint8_t other[ROOM];
+
+/* Lists with ids in common, of any editions; the same list with one byte changed, itself, and damaged. */
+static void compare(void)
+{
+    static const uint32_t editions[] = {1, 2, 2, 2, 3, 3, 65535};
+    uint32_t edition = editions[below(7)];
+    some_list(edition, below(6));
+    size_t len = made(bundle, key, edition, rows, rows_len, pool, pool_len);
+    edition = editions[below(7)];
+    some_list(edition, below(6));
+    size_t size = made(other, key, edition, rows, rows_len, pool, pool_len);
+    model_mac(key, bundle, len - 16, bundle + len - 16); /* the second list has a key of its own */
+    differ_both(bundle, len, other, size, below(20) ? 16 : 15);
+    differ_both(other, size, bundle, len, 16);
+    differ_both(bundle, len, bundle, len, 16);
+    memcpy(changed, bundle, len);
+    size_t at = below((uint32_t)(len - 16));
+    changed[at] = (uint8_t)(changed[at] + 1 - 2 * below(2));
+    differ_both(changed, len, bundle, len, 16);
+    model_mac(key, changed, len - 16, changed + len - 16);
+    differ_both(bundle, len, changed, len, 16);
+}
+
+/* 256 settings against 256 others, the last id of all among them. */
+static void compare_large(void)
+{
+    some_list(2, 256);
+    rows[4 * 255] = 4294967295u;
+    size_t len = made(bundle, key, 2, rows, rows_len, pool, pool_len);
+    some_list(2, 256);
+    for (uint32_t i = 0; i < 256; i++)
+        rows[4 * i] = 4294967040u + i;
+    size_t size = made(other, key, 2, rows, rows_len, pool, pool_len);
+    model_mac(key, bundle, len - 16, bundle + len - 16);
+    differ_both(bundle, len, other, size, 16);
+    differ_both(other, size, bundle, len, 16);
+}
+
 int main(void)
 {
     for (unsigned i = 0; i < WALKS; i++)
@@ -362,6 +463,13 @@ int main(void)
     large();
     counts("the reader", read_given, 20, 23);
     counts("the writer", write_given, 24, 25);
+    for (unsigned i = 0; i < WALKS / 4; i++)
+        compare();
+    compare_large();
+    printf("comparing: 0 given %u times, 1 %u", differ_given[0], differ_given[1]);
+    for (unsigned number = 20; number <= 25; number++)
+        printf(", %u %u", number, differ_given[number]);
+    printf("; %u ids that differ, %u that do not\n", differing, alike_ids);
     printf("%u values, %u unknown, %u absent; %u times both readers showed a value, and %u times both said absent\n", values, unknowns, absences, both_values, both_absent);
     printf("%u calls, %u differences\n", calls, differences);
     return differences > 0;

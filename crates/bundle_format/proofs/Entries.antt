@@ -16,7 +16,7 @@ use Rattle.bundle_format.proofs.Accepted.{accepts}
 use Rattle.bundle_format.proofs.Decoded.{Sound, sound-only}
 
 -- of a value and of an unknown setting the id is told
-tell-id : (reader : ℕ) (r : Row) → tell reader r .id ≡ r .id
+pub tell-id : (reader : ℕ) (r : Row) → tell reader r .id ≡ r .id
 unfolding tell
 tell-id reader r = go (knows reader (r .kind))
   where

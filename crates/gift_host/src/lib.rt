@@ -9,6 +9,7 @@ use cmac::Checked;
 use cmac::Fed;
 use cmac::Mac;
 use cmac::Started;
+use differ::Compared;
 use lane::Lane;
 ghost use mathlib.Core.Path.{_≡_};
 ghost use mathlib.Core.Bool.{true, false};
@@ -23,6 +24,7 @@ ghost use Rattle.cmac.specs.Calls.{TagsWhole, Checks, Starts, Feeds, TagsState}
 ghost use Rattle.bench_lent.specs.Lent.{Opens, Serves, Takes, Closes};
 ghost use Rattle.bundle_format.specs.Reader.{Asks, opened, lookedUp, entryOf};
 ghost use Rattle.bundle_format.specs.Writer.{Writes};
+ghost use Rattle.differ.specs.Difference.{Compares};
 ghost use Rattle.gift_host.specs.Edition.{edition};
 
 // The edition of records, arguments and counts that this library has. GIFT_HOST_EDITION in the header is the one that a host was compiled for.
@@ -350,4 +352,17 @@ pub extern "C" fn gift_bundle_write_2(
     ensures { λ r. ⌜ Writes 2 (now (key .entry)) (now (rows .entry)) (now (pool .entry)) (now (out .entry)) (r .code) (r .total) (now (out .exit)) ⌝ }
 {
     bundle_writer::write_2(key, rows, pool, out)
+}
+
+// Two bundles compared by the reader of edition 2 (2026-13): the first's number, the second's, 25.
+#[no_mangle]
+pub extern "C" fn gift_bundle_differ(
+    key: &[u8],
+    first: &[u8],
+    second: &[u8],
+    rows: &mut [u32],
+) -> Compared
+    ensures { λ r. ⌜ Compares (now (key .entry)) (now (first .entry)) (now (second .entry)) (now (rows .entry)) (r .code) (r .first) (r .second) (r .count) (now (rows .exit)) ⌝ }
+{
+    differ::compare(key, first, second, rows)
 }

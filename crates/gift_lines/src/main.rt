@@ -2,7 +2,7 @@
 use libc::STDIN_FILENO;
 use libc::STDOUT_FILENO;
 use lines::Reader;
-use lines::Text;
+use text::Text;
 ghost use Prim.Native.Nat.{_≤_};
 
 // How far reading came. Nothing more comes at the end of the input, and where a read or a write failed.

@@ -6,7 +6,7 @@ use Prim.Native.Nat.{ℕ, _≤_}
 use native.Mathlib.Omega.{arith}
 use lib.ListN.{length, take, drop, getD, length-take, length-drop}
 use borrow.Author.Tests.{eqb-true}
-use Rattle.lines.specs.Hex.{allHex}
+use Rattle.text.specs.Hex.{allHex}
 use Rattle.lines.specs.Line.{isLetter, isGood, keyText, blockText}
 use Rattle.lines.proofs.Numerals.{both}
 

@@ -2,32 +2,26 @@
 use mathlib.Core.Path.{_≡_, refl, ap, _∙_}
 use mathlib.Core.Bool.{Bool, true, false, cond}
 use mathlib.Core.List.{List, [], _∷_}
-use Prim.Native.Nat.{ℕ, zero, suc, _+_, _*_, _/_, _^_, _≤_, _<_}
-use native.Mathlib.Nat.{pow-suc}
+use Prim.Native.Nat.{ℕ, _+_, _*_, _^_, _≤_, _<_}
 use native.Mathlib.Omega.{arith}
 use lib.Dec.{ltb, eqb}
 use lib.ListN.{length, length-append}
-use borrow.Author.Tests.{ltb-true, ltb-false}
+use borrow.Author.Tests.{ltb-true}
 use Rattle.published.specs.Bytes.{toBytes}
 use Rattle.published.specs.Gift128.{encrypted, decrypted}
 use Rattle.published.proofs.Reading.{length-toBytes}
 use Rattle.gift128.specs.Calls.{afterOne}
 use Rattle.lines.specs.declared.Reader.{Reader}
-use Rattle.lines.specs.Hex.{hexOf}
-use Rattle.lines.specs.Decimal.{decimalOf}
+use Rattle.text.specs.Hex.{hexOf}
+use Rattle.text.specs.Decimal.{decimalOf}
 use Rattle.lines.specs.Line.{isGood, wordsText, packedText, response, badLine, answerOf}
 use Rattle.lines.specs.Input.{answerLine, doneLine}
 use Rattle.lines.specs.Session.{nextLine, held, closingOf}
-use Rattle.lines.proofs.Numerals.{decimal-short, decimal-long}
+use Rattle.text.proofs.Lengths.{length-hexOf, number-length}
 
 either : (k : ℕ) (b : Bool) (x y : List ℕ) → length x ≤ k → length y ≤ k → length (cond b x y) ≤ k
 either k true x y hx hy = hx
 either k false x y hx hy = hy
-
-pub length-hexOf : (bs : List ℕ) → length (hexOf bs) ≡ 2 * length bs
-unfolding hexOf
-length-hexOf [] = refl
-length-hexOf (b ∷ bs) = omega (arith, length-hexOf bs)
 
 block-text : (x : ℕ) → length (hexOf (toBytes 16 x)) ≤ 35
 block-text x = omega (arith, length-hexOf (toBytes 16 x), length-toBytes 16 x)
@@ -38,21 +32,6 @@ word-text x = length-hexOf (toBytes 4 x) ∙ ap (λ (n : ℕ). 2 * n) (length-to
 words-text : (a b c d : ℕ) → length (wordsText a b c d) ≤ 35
 unfolding wordsText
 words-text a b c d = simp length-append (omega (arith, word-text a, word-text b, word-text c, word-text d))
-
--- a number below 10 ^ (k + 1) has at most k + 1 digits
-digits : (k n : ℕ) → (10 ≤ n → length (decimalOf (n / 10)) ≤ k) → length (decimalOf n) ≤ suc k
-digits k n front = go (ltb n 10) refl
-  where
-    go : (t : Bool) → ltb n 10 ≡ t → length (decimalOf n) ≤ suc k
-    go true p = rw (decimal-short n (ltb-true n 10 p)) (omega arith)
-    go false p = rw (decimal-long n (ltb-false n 10 p), length-append) (omega (arith, front (ltb-false n 10 p)))
-
-decimal-length : (k n : ℕ) → n < 10 ^ suc k → length (decimalOf n) ≤ suc k
-decimal-length zero n h = digits zero n (λ more. omega arith)
-decimal-length (suc k) n h = digits (suc k) n (λ more. decimal-length k (n / 10) (omega (arith, pow-suc 10 (suc k))))
-
-number-length : (n : ℕ) → n < 2 ^ 64 → length (decimalOf n) ≤ 20
-number-length n h = decimal-length 19 n (omega arith)
 
 response-length : (c : ℕ) (key block : List ℕ) → length (response c key block) ≤ 35
 unfolding response encrypted decrypted afterOne packedText

@@ -1,5 +1,4 @@
 -- The laws behind the line program's proofs.
-pub mod Texts
 pub mod Numerals
 pub mod Good
 pub mod Lengths

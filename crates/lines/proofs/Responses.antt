@@ -10,7 +10,7 @@ use Rattle.published.specs.Bytes.{fromBytes}
 use Rattle.published.specs.Gift128.{encrypted, decrypted}
 use Rattle.published.specs.Calls.{blockCode, keyCode, CiphersByKey}
 use Rattle.gift128.specs.Calls.{orderCode, CiphersByKeyIn, afterOne}
-use Rattle.lines.specs.Hex.{hexOf}
+use Rattle.text.specs.Hex.{hexOf}
 use Rattle.lines.specs.Line.{packedText, response}
 
 pub leaves : (key block : List ℕ) {new left : List ℕ} {r : ℕ} → length key ≡ 16 → length block ≡ 16

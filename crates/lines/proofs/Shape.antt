@@ -9,19 +9,13 @@ use lib.Dec.{ltb, eqb, lit≤}
 use lib.ListN.{length, getD, take, drop, length-append, length-drop, take-append-drop}
 use lib.Seq.{take-at, take-all, getD-at, drop-cons, drop-append-add}
 use borrow.Author.Tests.{lt-ltb, eqb-true}
-use Rattle.bits.proofs.Computed.{agree}
 use Rattle.published.specs.Bytes.{Bytes}
-use Rattle.lines.specs.Hex.{hexDigits, placeOf, valueOf, allHex, bytesOf, hexOf}
+use Rattle.text.specs.Hex.{hexDigits, placeOf, valueOf, allHex, bytesOf, hexOf}
 use Rattle.lines.specs.Line.{isLetter, isGood, keyText, blockText, lineOf, response, answerOf}
 use Rattle.lines.proofs.Numerals.{both, hex-at}
 use Rattle.lines.proofs.Good.{good, length-part}
-use Rattle.lines.proofs.Lengths.{length-hexOf}
-
--- ---- digits written and read
-
-value-digit : (d : ℕ) → d < 16 → valueOf (getD hexDigits d 0) ≡ d
-unfolding valueOf
-value-digit = agree 16 (λ d. placeOf (getD hexDigits d 0) hexDigits) (λ d. d) tt
+use Rattle.text.proofs.Numerals.{value-digit}
+use Rattle.text.proofs.Lengths.{length-hexOf}
 
 -- ---- digits read and written
 

@@ -14,9 +14,9 @@ use Rattle.bits.proofs.Computed.{cond-true, cond-false}
 use Rattle.lines.specs.declared.Reader.{Reader}
 use Rattle.lines.specs.Line.{isGood, badLine, answerOf}
 use Rattle.lines.specs.Input.{linesFrom, answerLine, answers, firstLine, doneLine, outputOf}
-use Rattle.lines.specs.Written.{written}
-use Rattle.lines.specs.Session.{freshReader, nextLine, held, kept, ended, fedBy, closingOf, shown, writtenFrom, writtenOf}
-use Rattle.lines.proofs.Texts.{written-fits, shown-written}
+use Rattle.text.specs.Written.{written, shown}
+use Rattle.lines.specs.Session.{freshReader, nextLine, held, kept, ended, fedBy, closingOf, writtenFrom, writtenOf}
+use Rattle.text.proofs.Texts.{written-fits, shown-written}
 use Rattle.lines.proofs.Lengths.{answer-line-length, closing-length}
 
 -- a line of another length than 67 is bad, and so a line cut at 68 bytes is answered as the whole line

@@ -4,7 +4,7 @@ use mathlib.Core.List.{List, [], _∷_, _++_}
 use Prim.Native.Nat.{ℕ, suc}
 use lib.Dec.{eqb}
 use lib.ListN.{length}
-use Rattle.lines.specs.Decimal.{decimalOf}
+use Rattle.text.specs.Decimal.{decimalOf}
 use Rattle.lines.specs.Line.{answerOf}
 
 -- The lines of an input, of which one may have begun: each ends at a newline, byte 10; a last one without newline counts if not empty.

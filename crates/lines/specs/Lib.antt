@@ -1,7 +1,4 @@
 -- What the line program answers: document 01's rules for a line and for a whole input, and what the calls do towards it.
-pub mod Hex
-pub mod Decimal
 pub mod Line
 pub mod Input
-pub mod Written
 pub mod Session

@@ -8,8 +8,8 @@ use Rattle.published.specs.Bytes.{fromBytes, toBytes}
 use Rattle.published.specs.Gift128.{encrypted, decrypted}
 use Rattle.published.specs.Packing.{word}
 use Rattle.gift128.specs.Calls.{afterOne}
-use Rattle.lines.specs.Hex.{allHex, bytesOf, hexOf}
-use Rattle.lines.specs.Decimal.{decimalOf}
+use Rattle.text.specs.Hex.{allHex, bytesOf, hexOf}
+use Rattle.text.specs.Decimal.{decimalOf}
 
 -- E, D, R, P, F or G
 unfoldable pub isLetter : ℕ → Bool

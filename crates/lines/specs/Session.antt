@@ -6,9 +6,8 @@ use lib.Dec.{eqb, ltb}
 use lib.ListN.{take, set, replicate}
 use Rattle.lines.specs.declared.Fed.{Fed}
 use Rattle.lines.specs.declared.Reader.{Reader}
-use Rattle.lines.specs.declared.Text.{Text}
 use Rattle.lines.specs.Input.{answerLine, firstLine, doneLine}
-use Rattle.lines.specs.Written.{written}
+use Rattle.text.specs.Written.{written, shown}
 
 unfoldable pub freshReader : Reader
 freshReader = record { line = replicate 68 0; count = 0; lines = 0 }
@@ -37,10 +36,7 @@ unfoldable pub closingOf : Reader → List ℕ
 closingOf r =
     cond (eqb (r .count) 0) (doneLine (r .lines)) (answerLine (nextLine (r .lines)) (held r) ++ doneLine (nextLine (r .lines)))
 
--- The bytes of a text, and all that is written by who writes the first line's text, then the text of each byte fed, and the closing text.
-abbrev pub shown : Text → List ℕ
-shown t = take (t .count) (t .bytes)
-
+-- all that is written by who writes the first line's text, then the text of each byte fed, and the closing text
 unfoldable pub writtenFrom : Reader → List ℕ → List ℕ
 writtenFrom r [] = shown (written (closingOf r))
 writtenFrom r (b ∷ bs) = shown (fedBy r b .text) ++ writtenFrom (fedBy r b .reader) bs

@@ -5,101 +5,23 @@ use gift128::one_round;
 use packing::NUMBER;
 use packing::packing;
 use primitives::State;
+use text::Text;
+use text::empty;
+use text::push;
+use text::push_all;
+use text::push_decimal;
+use text::push_hex;
 ghost use mathlib.Core.Path.{_≡_};
 ghost use mathlib.Core.Bool.{true};
-ghost use mathlib.Core.List.{List, _++_, _∷_, []};
+ghost use mathlib.Core.List.{List, _++_};
 ghost use Prim.Native.Nat.{ℕ, _+_, _*_, _%_, _<_, min};
 ghost use lib.ListN.{length, getD};
 ghost use Rattle.published.specs.Bytes.{toBytes};
-ghost use Rattle.lines.specs.Hex.{hexDigits, valueOf, allHex, bytesOf, hexOf};
-ghost use Rattle.lines.specs.Decimal.{decimalOf};
+ghost use Rattle.text.specs.Hex.{valueOf, allHex, bytesOf, hexOf};
+ghost use Rattle.text.specs.Written.{written};
 ghost use Rattle.lines.specs.Line.{isLetter, isGood, keyText, blockText, wordsText, response, badLine, answerOf};
 ghost use Rattle.lines.specs.Input.{answerLine, firstLine, doneLine};
-ghost use Rattle.lines.specs.Written.{written};
 ghost use Rattle.lines.specs.Session.{freshReader, nextLine, held, kept, fedBy, closingOf};
-
-// A text of up to 64 bytes.
-#[repr(C)]
-pub struct Text {
-    pub bytes: [u8; 64],
-    pub count: usize,
-}
-
-fn empty() -> Text
-    ensures { λ r. ⌜ r ≡ written [] ⌝ }
-{
-    Text {
-        bytes: [0; 64],
-        count: 0,
-    }
-}
-
-// One byte more; a full text stays as it is.
-fn push(t: Text, b: u8) -> Text
-    ensures { λ r. ⌜ ((l : List ℕ) → t ≡ written l → r ≡ written (l ++ (b ∷ []))) ⌝ }
-{
-    let count = t.count;
-    if count < 64 {
-        let mut bytes = t.bytes;
-        bytes[count] = b;
-        Text {
-            bytes,
-            count: count + 1,
-        }
-    } else {
-        t
-    }
-}
-
-fn push_all(t: Text, bs: &[u8]) -> Text
-    ensures { λ r. ⌜ ((l : List ℕ) → t ≡ written l → r ≡ written (l ++ now (bs .entry))) ⌝ }
-{
-    let mut r = t;
-    let mut i = 0;
-    while i < bs.len() {
-        r = push(r, bs[i]);
-        i += 1;
-    }
-    r
-}
-
-fn push_decimal(t: Text, n: u64) -> Text
-    ensures { λ r. ⌜ ((l : List ℕ) → t ≡ written l → r ≡ written (l ++ decimalOf n)) ⌝ }
-{
-    let d = (n % 10) as u8;
-    if n < 10 {
-        return push(t, b'0' + d);
-    }
-    let r = push_decimal(t, n / 10);
-    push(r, b'0' + d)
-}
-
-fn hex_digit(d: u8) -> u8
-    requires { ⌜ d < 16 ⌝ }
-    ensures { λ r. ⌜ r ≡ getD hexDigits d 0 ⌝ }
-{
-    if d < 10 { b'0' + d } else { d - 10 + b'a' }
-}
-
-fn push_byte(t: Text, b: u8) -> Text
-    ensures { λ r. ⌜ ((l : List ℕ) → t ≡ written l → r ≡ written (l ++ hexOf (b ∷ []))) ⌝ }
-{
-    let high = hex_digit(b / 16);
-    let low = hex_digit(b % 16);
-    push(push(t, high), low)
-}
-
-fn push_hex(t: Text, bs: &[u8]) -> Text
-    ensures { λ r. ⌜ ((l : List ℕ) → t ≡ written l → r ≡ written (l ++ hexOf (now (bs .entry)))) ⌝ }
-{
-    let mut r = t;
-    let mut i = 0;
-    while i < bs.len() {
-        r = push_byte(r, bs[i]);
-        i += 1;
-    }
-    r
-}
 
 // What a hex digit stands for, and 16 for any other byte.
 fn value(c: u8) -> u8

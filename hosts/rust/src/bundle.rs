@@ -1,6 +1,6 @@
 //! The settings bundle: a reader and a writer of each edition.
 
-use crate::calls::bundles::{self, state, Seen, Told};
+use crate::calls::bundles::{self, state, Seen, Side, Told};
 use crate::{Refusal, BY_TYPE};
 
 /// The edition of a reader or a writer.
@@ -79,20 +79,84 @@ impl<'a> Bundle<'a> {
         }
     }
 
-    /// The library is proved to tell of a bundle that it accepted only what is here.
     fn meant(&self, told: Told) -> Answer<'a> {
-        match told.state {
-            state::ABSENT => Answer::Absent,
-            state::UNKNOWN => Answer::Unknown,
-            _ => {
-                let body = &self.bytes[told.at as usize..][..told.length as usize];
-                Answer::Value(match told.kind {
-                    0 => Value::Flag(body == [1]),
-                    1 => Value::Number(u64::from_be_bytes(body.try_into().expect(BY_TYPE))),
-                    _ => Value::Text(body),
-                })
-            }
+        meant(
+            self.bytes,
+            Side {
+                state: told.state,
+                kind: told.kind,
+                at: told.at,
+                length: told.length,
+            },
+        )
+    }
+}
+
+/// The library is proved to tell of a bundle that it accepted only what is here.
+fn meant(bytes: &[u8], side: Side) -> Answer<'_> {
+    match side.state {
+        state::ABSENT => Answer::Absent,
+        state::UNKNOWN => Answer::Unknown,
+        _ => {
+            let body = &bytes[side.at as usize..][..side.length as usize];
+            Answer::Value(match side.kind {
+                0 => Value::Flag(body == [1]),
+                1 => Value::Number(u64::from_be_bytes(body.try_into().expect(BY_TYPE))),
+                _ => Value::Text(body),
+            })
         }
+    }
+}
+
+/// Where two bundles differ, by the reader of edition 2: the ids whose answers are not the same, rising, each with the first bundle's answer and the second's.
+#[derive(Clone, Debug)]
+pub struct Differences<'a> {
+    rows: [bundles::Difference; Differences::MOST],
+    count: usize,
+    next: usize,
+    first: &'a [u8],
+    second: &'a [u8],
+}
+
+impl<'a> Differences<'a> {
+    /// Ids that differ, at most.
+    pub const MOST: usize = 512;
+
+    /// Compares two bundles. If either is refused, each one's number, the first first, and nothing is listed.
+    pub fn between(
+        key: &[u8],
+        first: &'a [u8],
+        second: &'a [u8],
+    ) -> Result<Differences<'a>, (Option<Refusal>, Option<Refusal>)> {
+        let mut rows = [bundles::Difference::default(); Differences::MOST];
+        let told = bundles::differ(key, first, second, &mut rows);
+        if told.first != 0 || told.second != 0 {
+            return Err((
+                Refusal::try_from(told.first).ok(),
+                Refusal::try_from(told.second).ok(),
+            ));
+        }
+        Ok(Differences {
+            rows,
+            count: told.count as usize,
+            next: 0,
+            first,
+            second,
+        })
+    }
+}
+
+impl<'a> Iterator for Differences<'a> {
+    type Item = (u32, Answer<'a>, Answer<'a>);
+
+    fn next(&mut self) -> Option<(u32, Answer<'a>, Answer<'a>)> {
+        let row = self.rows[..self.count].get(self.next)?;
+        self.next += 1;
+        Some((
+            row.id,
+            meant(self.first, row.first),
+            meant(self.second, row.second),
+        ))
     }
 }
 

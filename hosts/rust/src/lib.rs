@@ -18,7 +18,7 @@ use core::fmt;
 pub use bench::{Bench, Direction, Lane, Order, Owner, State};
 pub use counter::{Counter, Stream};
 pub use gift64::Gift64;
-pub use bundle::{Answer, Bundle, Edition, Iter, Row, Value, Writer};
+pub use bundle::{Answer, Bundle, Differences, Edition, Iter, Row, Value, Writer};
 pub use mac::{Mac, MacState};
 pub use refusal::Refusal;
 pub use words::{Pair, RoundWords};

@@ -2,7 +2,7 @@
 
 use gift_host::calls::bundles;
 use gift_host::Refusal::*;
-use gift_host::{calls, Answer, Bundle, Edition, Row, Value, Writer};
+use gift_host::{calls, Answer, Bundle, Differences, Edition, Row, Value, Writer};
 
 const KEY: [u8; 16] = [0, 1, 2, 3, 4, 5, 6, 7, 8, 9, 10, 11, 12, 13, 14, 15];
 
@@ -197,4 +197,50 @@ fn sizes() {
         assert_eq!(bundle.get(256), Answer::Absent);
         assert_eq!(bundle.iter().count(), 256);
     }
+}
+
+fn written(rows: &[Row], pool: &[u8]) -> Vec<u8> {
+    let mut out = vec![0; Bundle::MOST];
+    Writer::new(Edition::Two)
+        .write(&KEY, rows, pool, &mut out)
+        .unwrap()
+        .to_vec()
+}
+
+#[test]
+fn where_two_differ() {
+    let first = written(
+        &[row(17, 1, 1, 8), row(18, 0, 1, 1), row(19, 2, 0, 6), row(u32::MAX, 0, 0, 1)],
+        b"\0\0\0\0\0\0\x04\xe2\x01Pier 4\x01",
+    );
+    let second = written(
+        &[row(17, 1, 0, 8), row(18, 2, 1, 1), row(20, 2, 0, 6), row(u32::MAX, 0, 0, 1)],
+        b"\0\0\0\0\0\0\x04\xe2\x01Pier 4\0",
+    );
+    let pier = Answer::Value(Value::Text(b"Pier 4"));
+    let flag = |on| Answer::Value(Value::Flag(on));
+    let expected = [
+        // must-know is no part of a value, and a kind is
+        (18, flag(true), Answer::Value(Value::Text(b"\x01"))),
+        (19, pier, Answer::Absent),
+        (20, Answer::Absent, pier),
+        (u32::MAX, flag(true), flag(false)),
+    ];
+    let found: Vec<_> = Differences::between(&KEY, &first, &second).unwrap().collect();
+    assert_eq!(found, expected);
+    let turned: Vec<_> = Differences::between(&KEY, &second, &first).unwrap().collect();
+    assert_eq!(turned, expected.map(|(id, a, b)| (id, b, a)));
+    assert_eq!(Differences::between(&KEY, &first, &first).unwrap().count(), 0);
+    // each one's number, the first's first, and nothing listed
+    let mut damaged = second.clone();
+    damaged[20] ^= 1;
+    let refused = |key: &[u8], a: &[u8], b: &[u8]| Differences::between(key, a, b).unwrap_err();
+    assert_eq!(refused(&KEY, &first, &damaged), (None, Some(BadTag)));
+    assert_eq!(refused(&KEY, &damaged, &[]), (Some(BadTag), Some(BadBundleLength)));
+    assert_eq!(refused(&KEY[..15], &first, &[]), (Some(BadKeyLength), Some(BadKeyLength)));
+    // rows that are too few: the count is told, and nothing written
+    let mut rows = [bundles::Difference::default(); 3];
+    let told = bundles::differ(&KEY, &first, &second, &mut rows);
+    assert_eq!((told.code, told.first, told.second, told.count), (25, 0, 0, 4));
+    assert_eq!(rows, [bundles::Difference::default(); 3]);
 }

@@ -1,5 +1,5 @@
 -- `gift_lines::main` is safe and ends.
-use Rattle.lines.proofs.Texts.{written-fits}
+use Rattle.text.proofs.Texts.{written-fits}
 use Rattle.gift_lines.proofs.main.Statement.{statement}
 use Rattle.gift_lines.proofs.main.Tie as tie
 

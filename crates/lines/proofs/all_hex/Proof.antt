@@ -4,7 +4,7 @@ use mathlib.Core.List.{List}
 use Prim.Native.Nat.{ℕ, _≤_, _-_}
 use native.Mathlib.Omega.{arith}
 use lib.ListN.{length, drop, drop-of-length-le}
-use Rattle.lines.specs.Hex.{allHex}
+use Rattle.text.specs.Hex.{allHex}
 use Rattle.lines.proofs.Numerals.{more-hex, no-more-hex}
 use Rattle.lines.proofs.all_hex.Statement.{statement}
 use Rattle.lines.proofs.all_hex.Tie as tie

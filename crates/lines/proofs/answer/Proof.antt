@@ -2,7 +2,7 @@
 use mathlib.Core.Path.{sym, ap, _∙_}
 use Rattle.bits.proofs.Computed.{cond-true, cond-false}
 use Rattle.lines.specs.Line.{answerOf}
-use Rattle.lines.specs.Written.{written}
+use Rattle.text.specs.Written.{written}
 use Rattle.lines.proofs.answer.Statement.{statement}
 use Rattle.lines.proofs.answer.Tie as tie
 

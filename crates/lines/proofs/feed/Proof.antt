@@ -2,7 +2,7 @@
 use mathlib.Core.Path.{_≡_}
 use borrow.Author.Tests.{eq-eqb, ne-eqb}
 use Rattle.lines.specs.Input.{answerLine}
-use Rattle.lines.specs.Written.{written}
+use Rattle.text.specs.Written.{written}
 use Rattle.lines.specs.Session.{held, ended, fedBy}
 use Rattle.lines.proofs.feed.Statement.{statement}
 use Rattle.lines.proofs.feed.Tie as tie

@@ -3,7 +3,7 @@ use mathlib.Core.Path.{ap, _∙_}
 use mathlib.Core.List.{append-assoc}
 use borrow.Author.Needs.{needs}
 use Rattle.lines.specs.Input.{doneLine}
-use Rattle.lines.specs.Written.{written}
+use Rattle.text.specs.Written.{written}
 use Rattle.lines.proofs.push_done.Statement.{statement}
 use Rattle.lines.proofs.push_done.Tie as tie
 

@@ -6,8 +6,8 @@ use native.Mathlib.Nat.{div-one}
 use borrow.Author.Needs.{needs}
 use Rattle.bits.specs.Digit.{digit}
 use Rattle.published.specs.Bytes.{toBytes}
-use Rattle.lines.specs.Hex.{hexOf}
-use Rattle.lines.specs.Written.{written}
+use Rattle.text.specs.Hex.{hexOf}
+use Rattle.text.specs.Written.{written}
 use Rattle.lines.proofs.push_word.Statement.{statement}
 use Rattle.lines.proofs.push_word.Tie as tie
 

@@ -6,9 +6,9 @@ use borrow.Author.Needs.{needs}
 use Rattle.primitives.specs.declared.State.{State}
 use Rattle.primitives.specs.Packed.{stateOf}
 use Rattle.packing.proofs.Inverse.{packed-block}
-use Rattle.lines.specs.Hex.{hexOf}
+use Rattle.text.specs.Hex.{hexOf}
 use Rattle.lines.specs.Line.{wordsText, packedText}
-use Rattle.lines.specs.Written.{written}
+use Rattle.text.specs.Written.{written}
 use Rattle.lines.proofs.Responses.{leaves, encrypts, decrypts, response-E, response-D, response-R, response-F, response-G, response-P}
 use Rattle.lines.proofs.respond.Statement.{statement}
 use Rattle.lines.proofs.respond.Tie as tie

@@ -6,7 +6,7 @@ use lib.Dec.{lit≤}
 use lib.ListN.{getD}
 use borrow.Author.Needs.{needs}
 use Rattle.lines.specs.Line.{response}
-use Rattle.lines.specs.Written.{written}
+use Rattle.text.specs.Written.{written}
 use Rattle.lines.proofs.Good.{Good, good, reaches, length-part}
 use Rattle.lines.proofs.respond_to.Statement.{statement}
 use Rattle.lines.proofs.respond_to.Tie as tie

@@ -6,7 +6,7 @@ use native.Mathlib.Numerals.{add-one}
 use native.Mathlib.Omega.{arith}
 use lib.ListN.{length, take, length-set}
 use lib.Seq.{take-suc, take-suc-set, take-all}
-use Rattle.lines.specs.Hex.{bytesOf}
+use Rattle.text.specs.Hex.{bytesOf}
 use Rattle.lines.proofs.Numerals.{hex-at, byte-at, length-bytesOf}
 use Rattle.lines.proofs.sixteen_bytes.Statement.{statement}
 use Rattle.lines.proofs.sixteen_bytes.Tie as tie

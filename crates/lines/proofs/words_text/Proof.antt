@@ -2,7 +2,7 @@
 use mathlib.Core.Path.{ap, _∙_}
 use mathlib.Core.List.{[], append-assoc}
 use Rattle.lines.specs.Line.{wordsText}
-use Rattle.lines.specs.Written.{written}
+use Rattle.text.specs.Written.{written}
 use Rattle.lines.proofs.words_text.Statement.{statement}
 use Rattle.lines.proofs.words_text.Tie as tie
 

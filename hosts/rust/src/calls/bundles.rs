@@ -55,6 +55,48 @@ struct Written {
     total: u32,
 }
 
+/// How a setting stands in one of two bundles that are compared: [`Told`] without the id.
+#[derive(Clone, Copy, Debug, Default, PartialEq, Eq)]
+#[repr(C)]
+pub struct Side {
+    /// How it stands.
+    pub state: u32,
+    /// Of a value: its kind.
+    pub kind: u32,
+    /// Of a value: where its body lies in its own bundle.
+    pub at: u32,
+    /// Of a value: how many bytes that is.
+    pub length: u32,
+}
+
+/// A setting that two bundles answer differently, as include/gift_host.h has it.
+#[derive(Clone, Copy, Debug, Default, PartialEq, Eq)]
+#[repr(C)]
+pub struct Difference {
+    /// The id.
+    pub id: u32,
+    /// How it stands in the first bundle.
+    pub first: Side,
+    /// And in the second.
+    pub second: Side,
+}
+
+/// What comparing tells, as include/gift_host.h has it.
+#[derive(Clone, Copy, Debug, PartialEq, Eq)]
+#[repr(C)]
+pub struct Compared {
+    /// 0, or the first refusal that applies.
+    pub code: u32,
+    /// The first bundle's number.
+    pub first: u32,
+    /// The second's.
+    pub second: u32,
+    /// How many ids differ; 0 if a bundle is refused.
+    pub count: u32,
+}
+
+const _: () = assert!(size_of::<Difference>() == 36 && align_of::<Difference>() == 4);
+const _: () = assert!(size_of::<Compared>() == 16);
 const _: () = assert!(size_of::<Told>() == 20 && size_of::<Seen>() == 16);
 const _: () = assert!(size_of::<Asked>() == 24 && size_of::<Written>() == 8);
 const _: () = assert!(size_of::<Row>() == 16 && align_of::<Row>() == 4);
@@ -101,6 +143,16 @@ extern "C" {
     ) -> Seen;
     fn gift_bundle_look(seen: Seen, bundle: *const u8, bundle_len: usize, id: u32) -> Told;
     fn gift_bundle_entry(seen: Seen, bundle: *const u8, bundle_len: usize, i: u32) -> Told;
+    fn gift_bundle_differ(
+        key: *const u8,
+        key_len: usize,
+        first: *const u8,
+        first_len: usize,
+        second: *const u8,
+        second_len: usize,
+        rows: *mut u32,
+        rows_len: usize,
+    ) -> Compared;
     fn gift_bundle_write_1(
         key: *const u8,
         key_len: usize,
@@ -193,4 +245,23 @@ pub fn write(
 pub fn numbers(rows: &[Row]) -> &[u32] {
     // A row is four u32, none of it padding: the assertion above.
     unsafe { core::slice::from_raw_parts(rows.as_ptr().cast(), 4 * rows.len()) }
+}
+
+/// Two bundles compared by the reader of edition 2: a row for each id that differs, ids rising. What is told has each bundle's own number; `code` is the first that
+/// applies, or 25 if the rows are fewer than `count`, and then no row is written.
+pub fn differ(key: &[u8], first: &[u8], second: &[u8], rows: &mut [Difference]) -> Compared {
+    linked();
+    unsafe {
+        gift_bundle_differ(
+            key.as_ptr(),
+            key.len(),
+            first.as_ptr(),
+            first.len(),
+            second.as_ptr(),
+            second.len(),
+            // A row is nine u32, none of it padding: the assertion above.
+            rows.as_mut_ptr().cast(),
+            9 * rows.len(),
+        )
+    }
 }

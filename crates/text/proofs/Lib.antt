@@ -1,0 +1,4 @@
+-- Laws of texts and digits.
+pub mod Texts
+pub mod Numerals
+pub mod Lengths
