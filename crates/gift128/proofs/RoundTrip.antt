@@ -7,11 +7,12 @@ use lib.ListN.{length}
 use Rattle.published.specs.Bytes.{Bytes}
 use Rattle.published.specs.Seen.{seen}
 use Rattle.published.specs.Rounds.{Pair}
+use Rattle.published.specs.Gift128.{roundsAll}
 use Rattle.published.proofs.Seen.{seen-again}
 use Rattle.published.proofs.Steps.{width128}
 use Rattle.published.proofs.Undone.{rounds-lt, unrounds-lt, unrounds-rounds, rounds-unrounds}
 use Rattle.round_words.specs.Arranged.{pairsFrom}
-use Rattle.gift128.specs.Calls.{roundsAll, roundsBy}
+use Rattle.gift128.specs.Calls.{roundsBy}
 
 -- either way, a block comes of a block
 pub rounds-all-lt : (back : Bool) (ps : List Pair) (x : ℕ) → x < 2 ^ 128 → roundsAll back ps x < 2 ^ 128

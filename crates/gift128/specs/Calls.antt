@@ -9,8 +9,7 @@ use Rattle.answers.specs.Order.{unless, ifDone}
 use Rattle.answers.specs.Outcome.{Gives}
 use Rattle.published.specs.Bytes.{readBlock, writeBlock}
 use Rattle.published.specs.Seen.{isOrder, seen}
-use Rattle.published.specs.Rounds.{Pair}
-use Rattle.published.specs.Gift128.{pairsOf, rounds128, unrounds128}
+use Rattle.published.specs.Gift128.{pairsOf, rounds128, unrounds128, roundsAll}
 use Rattle.published.specs.Calls.{blockCode, keyCode}
 use Rattle.published.specs.Blocks.{allOf}
 use Rattle.round_words.specs.Arranged.{pairsFrom}
@@ -40,11 +39,7 @@ newCode key = unless (eqb key 16) BAD_KEY_LENGTH DONE
 
 -- ---- what a call that is done leaves
 
--- the forty rounds, done or undone, of a list of pairs; of eighty round words, whatever they are, those that they stand for; of a key, its own
-abbrev pub roundsAll : Bool → List Pair → ℕ → ℕ
-roundsAll false ps = rounds128 ps 0
-roundsAll true ps = unrounds128 ps 0
-
+-- the forty rounds, done or undone: of eighty round words, whatever they are, those that they stand for; of a key, its own
 abbrev pub roundsBy : (back : Bool) (words : List ℕ) → ℕ → ℕ
 roundsBy back words = roundsAll back (pairsFrom 0 words)
 

@@ -12,8 +12,8 @@ use packing::packing;
 use packing::unpacking;
 use primitives::State;
 use quintuple::first_round;
-use quintuple::inv_quintuple_round;
-use quintuple::quintuple_round;
+use quintuple::inv_quintuples;
+use quintuple::quintuples;
 ghost use mathlib.Core.Path.{_≡_};
 ghost use mathlib.Core.Bool.{true};
 ghost use Prim.Native.Nat.{_%_};
@@ -75,34 +75,20 @@ impl Gift128 {
     }
 }
 
-// The forty rounds, five at a time: each quintuple reads the ten words that start at twice its offset.
+// The forty rounds, five at a time.
 fn encrypt_state(s: State, rkey: &[u32]) -> State
     requires { ⌜ length (now rkey) ≡ 80 ⌝ }
     ensures { λ r. ⌜ r ≡ stateOf (rounds128 (pairsFrom 0 (now (rkey .entry))) 0 (blockOf s)) ⌝ }
 {
-    let mut state = s;
-    let mut i: usize = 0;
-    while i < 40 {
-        let at = 2 * i;
-        state = quintuple_round(state, &rkey[at..], i);
-        i += 5;
-    }
-    state
+    quintuples(s, rkey, 0, 8)
 }
 
-// And undone, from offset 35 down to 0, both included.
+// And undone, the last first.
 fn decrypt_state(s: State, rkey: &[u32]) -> State
     requires { ⌜ length (now rkey) ≡ 80 ⌝ }
     ensures { λ r. ⌜ r ≡ stateOf (unrounds128 (pairsFrom 0 (now (rkey .entry))) 0 (blockOf s)) ⌝ }
 {
-    let mut state = s;
-    let mut i: usize = 40;
-    while 0 < i {
-        i -= 5;
-        let at = 2 * i;
-        state = inv_quintuple_round(state, &rkey[at..], i);
-    }
-    state
+    inv_quintuples(s, rkey, 0, 8)
 }
 
 // Encrypting and decrypting differ in this alone: whether the rounds are done or undone.

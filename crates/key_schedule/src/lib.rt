@@ -6,13 +6,13 @@ use primitives::ror;
 use primitives::swapmovesingle;
 use primitives::u32big;
 ghost use mathlib.Core.Path.{_≡_};
-ghost use lib.ListN.{length};
+ghost use lib.ListN.{length, take};
 ghost use Rattle.published.specs.Bytes.{fromBytes};
 ghost use Rattle.primitives.specs.Words.{permuted};
 ghost use Rattle.round_words.specs.Arranged.{arranged};
 ghost use Rattle.key_schedule.specs.Expand.{expandCode, expanded, Expands};
 ghost use Rattle.key_schedule.specs.InnerUpdate.{updated, later, tripled};
-ghost use Rattle.key_schedule.specs.InnerTens.{firstWords, keyWords, fiveRounds, fiveLater, tenLater, wordsOf, tenOf, grown};
+ghost use Rattle.key_schedule.specs.InnerTens.{firstWords, keyWords, fiveRounds, fiveLater, tenLater, wordsOf, tenOf, tens, grown};
 
 fn rearrange_rkey_0(x: u32) -> u32
     ensures { λ r. ⌜ r ≡ arranged 1 x ⌝ }
@@ -280,6 +280,20 @@ fn store(ws: &mut [u32], t: Ten)
     ws[9] = t.u4;
 }
 
+// The first twenty words: a loop of two, so that five_rounds is called at one place, and the compiler puts its text there.
+fn begin(w: Four, rkey: &mut [u32])
+    requires { ⌜ length (now rkey) ≡ 80 ⌝ }
+    ensures { λ _. ⌜ take 20 (now (rkey .exit)) ≡ tens 2 w ⌝ }
+{
+    let mut f = w;
+    for g in 0..2 {
+        let a = 10 * g;
+        let e = a + 10;
+        store(&mut rkey[a..e], five_rounds(f));
+        f = five_later(f);
+    }
+}
+
 // The sixty words that follow the first twenty.
 fn extend(rkey: &mut [u32])
     requires { ⌜ length (now rkey) ≡ 80 ⌝ }
@@ -300,9 +314,7 @@ fn expand(key: &[u8], rkey: &mut [u32])
     requires { ⌜ length (now rkey) ≡ 80 ⌝ }
     ensures { λ _. ⌜ now (rkey .exit) ≡ expanded (now (key .entry)) ⌝ }
 {
-    let w = first_words(key);
-    store(&mut rkey[0..10], five_rounds(w));
-    store(&mut rkey[10..20], five_rounds(five_later(w)));
+    begin(first_words(key), rkey);
     extend(rkey);
 }
 

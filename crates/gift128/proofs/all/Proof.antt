@@ -9,8 +9,9 @@ use denote.Ref.{now}
 use Rattle.published.specs.Blocks.{eachOf}
 use Rattle.published.specs.Seen.{seen}
 use Rattle.published.proofs.Many.{each-none, one-part}
+use Rattle.published.proofs.Groups.{all-written}
 use Rattle.gift128.specs.Calls.{roundsBy}
-use Rattle.gift128.proofs.Many.{sixteen-more, all-written}
+use Rattle.gift128.proofs.Many.{sixteen-more}
 use Rattle.gift128.proofs.all.Statement.{statement}
 use Rattle.gift128.proofs.all.Tie as tie
 
