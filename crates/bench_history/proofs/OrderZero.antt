@@ -17,7 +17,7 @@ use Rattle.primitives.specs.Packed.{blockOf, stateOf}
 use Rattle.packing.specs.Packing.{noWords, packed, unpacked}
 use Rattle.round_words.specs.Arranged.{pairsFrom}
 use Rattle.gift128.specs.Calls.{newWords, roundsBy, roundsOf}
-use Rattle.gift128.proofs.RoundTrip.{rounds-all-lt}
+use Rattle.eight.proofs.Rounds.{rounds-all-lt}
 use Rattle.lane.specs.declared.Lane.{Lane}
 use Rattle.lane.specs.Record.{idle, running, opened, yielded}
 use Rattle.bench.specs.Turning.{laneCount}

@@ -12,7 +12,7 @@ use Rattle.answers.specs.Outcome.{Gives}
 use Rattle.answers.proofs.Passed.{passed}
 use Rattle.published.specs.Seen.{isOrder}
 use Rattle.published.specs.Calls.{blockCode}
-use Rattle.gift128.specs.Calls.{orderCode, wordsCode, manyCode}
+use Rattle.gift128.specs.Calls.{orderCode, wordsCode, manyCode, manyWordsCode}
 
 -- the order is tried first, whatever comes after it
 pub order-passed : (order own : ℕ) → orderCode order own ≡ 0 → (isOrder order ≡ true) × (own ≡ 0)
@@ -33,6 +33,14 @@ many-passed key input output e =
     let p2 = passed (eqb (input % 16) 0) BAD_BLOCK_LENGTH _ refl (p1 .1) in
     let p3 = passed (eqb output input) BAD_OUTPUT_LENGTH DONE refl (p2 .1) in
     (eqb-true key 16 (p1 .0), eqb-true (input % 16) 0 (p2 .0), eqb-true output input (p3 .0))
+
+pub many-words-passed : (words input output : ℕ) → manyWordsCode words input output ≡ 0 → (words ≡ 80) × (input % 16 ≡ 0) × (output ≡ input)
+unfolding manyWordsCode
+many-words-passed words input output e =
+    let p1 = passed (eqb words 80) BAD_WORD_COUNT _ refl e in
+    let p2 = passed (eqb (input % 16) 0) BAD_BLOCK_LENGTH _ refl (p1 .1) in
+    let p3 = passed (eqb output input) BAD_OUTPUT_LENGTH DONE refl (p2 .1) in
+    (eqb-true words 80 (p1 .0), eqb-true (input % 16) 0 (p2 .0), eqb-true output input (p3 .0))
 
 -- where the words are eighty, as a `Gift128` keeps them, only the block's length is refused
 pub by-its-own : (order : ℕ) (ws block : List ℕ) {new : List ℕ} {r : ℕ} {e : List ℕ} → length ws ≡ 80 → Gives (orderCode order (wordsCode (length ws) (length block))) new block r e

@@ -21,10 +21,10 @@ use Rattle.round_words.proofs.Pairs.{first-pair}
 use Rattle.packing.specs.Packing.{packed, unpacked}
 use Rattle.packing.proofs.Inverse.{packed-block, unpacked-block}
 use Rattle.quintuple.specs.Quintuple.{firstRound}
+use Rattle.eight.proofs.Rounds.{rounds-all-lt}
 use Rattle.key_schedule.specs.Expand.{expandCode, expanded}
 use Rattle.key_schedule.proofs.Expanded.{pairs-of-expanded, length-expanded}
 use Rattle.gift128.specs.Calls.{roundsBy, roundsOf}
-use Rattle.gift128.proofs.RoundTrip.{rounds-all-lt}
 
 -- what f does to the state, the call does to the bytes, seen through their order
 module _ (order : ℕ) (o : isOrder order ≡ true) where

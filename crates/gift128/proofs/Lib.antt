@@ -3,5 +3,6 @@ pub mod Answers
 pub mod RoundTrip
 pub mod Blocks
 pub mod Many
+pub mod Ending
 pub mod OrderZero
 pub mod OneOutcome

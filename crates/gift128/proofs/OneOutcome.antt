@@ -4,7 +4,7 @@ use Prim.Native.Nat.{ℕ}
 use Rattle.answers.specs.Outcome.{OneOutcome}
 use Rattle.answers.proofs.Outcome.{one-outcome}
 use Rattle.key_schedule.specs.Expand.{Expands}
-use Rattle.gift128.specs.Calls.{EncryptsByKeyIn, DecryptsByKeyIn, EncryptsByWordsIn, DecryptsByWordsIn, EncryptsBlocksIn, DecryptsBlocksIn, MakesOneRound, MakesCipher, EncryptsBlockIn, DecryptsBlockIn}
+use Rattle.gift128.specs.Calls.{EncryptsByKeyIn, DecryptsByKeyIn, EncryptsByWordsIn, DecryptsByWordsIn, EncryptsBlocksIn, DecryptsBlocksIn, EncryptsBlocksByWordsIn, DecryptsBlocksByWordsIn, MakesOneRound, MakesCipher, EncryptsBlockIn, DecryptsBlockIn}
 
 module _ (order : ℕ) (key words block input output : List ℕ) where
   pub precompute-rkeys : OneOutcome (Expands key words)
@@ -27,6 +27,12 @@ module _ (order : ℕ) (key words block input output : List ℕ) where
 
   pub decrypt-blocks : OneOutcome (DecryptsBlocksIn order key input output)
   decrypt-blocks = one-outcome _ _ _
+
+  pub encrypt-blocks-by-words : OneOutcome (EncryptsBlocksByWordsIn order words input output)
+  encrypt-blocks-by-words = one-outcome _ _ _
+
+  pub decrypt-blocks-by-words : OneOutcome (DecryptsBlocksByWordsIn order words input output)
+  decrypt-blocks-by-words = one-outcome _ _ _
 
   pub one-round : OneOutcome (MakesOneRound key block)
   one-round = one-outcome _ _ _

@@ -10,16 +10,12 @@ use Rattle.published.specs.Rounds.{Pair}
 use Rattle.published.specs.Gift128.{roundsAll}
 use Rattle.published.proofs.Seen.{seen-again}
 use Rattle.published.proofs.Steps.{width128}
-use Rattle.published.proofs.Undone.{rounds-lt, unrounds-lt, unrounds-rounds, rounds-unrounds}
+use Rattle.published.proofs.Undone.{unrounds-rounds, rounds-unrounds}
 use Rattle.round_words.specs.Arranged.{pairsFrom}
+use Rattle.eight.proofs.Rounds.{rounds-all-lt}
 use Rattle.gift128.specs.Calls.{roundsBy}
 
--- either way, a block comes of a block
-pub rounds-all-lt : (back : Bool) (ps : List Pair) (x : ℕ) → x < 2 ^ 128 → roundsAll back ps x < 2 ^ 128
-rounds-all-lt false ps = rounds-lt 128 1 width128 ps 0
-rounds-all-lt true ps = unrounds-lt 128 1 width128 ps 0
-
--- and each way undoes the other
+-- each way undoes the other
 all-undone : (back : Bool) (ps : List Pair) (x : ℕ) → x < 2 ^ 128 → roundsAll (not back) ps (roundsAll back ps x) ≡ x
 all-undone false ps = unrounds-rounds 128 1 width128 ps 0
 all-undone true ps = rounds-unrounds 128 1 width128 ps 0

@@ -33,6 +33,14 @@ manyCode key input output =
     (unless (eqb output input) BAD_OUTPUT_LENGTH
     DONE))
 
+-- many blocks by round words: 4, 2, 3
+unfoldable pub manyWordsCode : (words input output : ℕ) → ℕ
+manyWordsCode words input output =
+    unless (eqb words 80) BAD_WORD_COUNT
+    (unless (eqb (input % 16) 0) BAD_BLOCK_LENGTH
+    (unless (eqb output input) BAD_OUTPUT_LENGTH
+    DONE))
+
 -- making a `Gift128` from a key: 1
 unfoldable pub newCode : (key : ℕ) → ℕ
 newCode key = unless (eqb key 16) BAD_KEY_LENGTH DONE
@@ -82,6 +90,14 @@ EncryptsBlocksIn order key input output =
 abbrev pub DecryptsBlocksIn : (order : ℕ) (key input output : List ℕ) → ℕ → List ℕ → Type 0
 DecryptsBlocksIn order key input output =
     Gives (orderCode order (manyCode (length key) (length input) (length output))) (allBlocks (seen order (roundsOf true key)) input) output
+
+abbrev pub EncryptsBlocksByWordsIn : (order : ℕ) (words input output : List ℕ) → ℕ → List ℕ → Type 0
+EncryptsBlocksByWordsIn order words input output =
+    Gives (orderCode order (manyWordsCode (length words) (length input) (length output))) (allBlocks (seen order (roundsBy false words)) input) output
+
+abbrev pub DecryptsBlocksByWordsIn : (order : ℕ) (words input output : List ℕ) → ℕ → List ℕ → Type 0
+DecryptsBlocksByWordsIn order words input output =
+    Gives (orderCode order (manyWordsCode (length words) (length input) (length output))) (allBlocks (seen order (roundsBy true words)) input) output
 
 abbrev pub MakesOneRound : (key block : List ℕ) → ℕ → List ℕ → Type 0
 MakesOneRound key block = Gives (keyCode (length key) (length block)) (afterOne key block) block

@@ -9,7 +9,7 @@ use answers::DONE;
 use packing::is_order;
 ghost use mathlib.Core.Path.{_≡_};
 ghost use Rattle.published.specs.Calls.{blockCode, keyCode};
-ghost use Rattle.gift128.specs.Calls.{orderCode, wordsCode, manyCode};
+ghost use Rattle.gift128.specs.Calls.{orderCode, wordsCode, manyCode, manyWordsCode};
 
 // 13, and then the call's own number.
 pub(crate) fn in_order(order: u32, own: u32) -> u32
@@ -57,6 +57,22 @@ pub(crate) fn many_code(key: usize, input: usize, output: usize) -> u32
 {
     if key != Gift128::KEY_SIZE {
         return BAD_KEY_LENGTH;
+    }
+    if input % Gift128::BLOCK_SIZE != 0 {
+        return BAD_BLOCK_LENGTH;
+    }
+    if output != input {
+        return BAD_OUTPUT_LENGTH;
+    }
+    DONE
+}
+
+// Many blocks by round words: 4, 2, 3.
+pub(crate) fn many_words_code(words: usize, input: usize, output: usize) -> u32
+    ensures { λ r. ⌜ r ≡ manyWordsCode words input output ⌝ }
+{
+    if words != 80 {
+        return BAD_WORD_COUNT;
     }
     if input % Gift128::BLOCK_SIZE != 0 {
         return BAD_BLOCK_LENGTH;

@@ -48,7 +48,7 @@ returns c =
     let first : q .i ≡ 0 = omega arith in
     record {
       lane = λ k h.
-          q .inv .2 k h 8 (omega arith) ∙ ap (λ (i : ℕ). unseveral ws 8 i (laneAt (start .args .s) k)) first ∙ forty-undone ws (start .pre) (laneAt (start .args .s) k)
+          q .inv .2 k h 8 (omega arith) ∙ ap (λ (i : ℕ). unseveral ws 8 i (laneAt (start .args .s) k)) first ∙ forty-undone ws (start .pre) (laneAt (start .args .s) k);
     }
 
 pub decrypt-lanes-spec : {M : Type 1} → statement M
