@@ -16,6 +16,7 @@ ghost use Rattle.published.specs.Calls.{EncryptsByKey, DecryptsByKey};
 ghost use Rattle.published.specs.Calls64.{EncryptsByKey64, DecryptsByKey64, EncryptsBlocks64, DecryptsBlocks64};
 ghost use Rattle.key_schedule.specs.Expand.{Expands};
 ghost use Rattle.gift128.specs.Calls.{EncryptsByKeyIn, DecryptsByKeyIn, EncryptsByWordsIn, DecryptsByWordsIn, EncryptsBlocksIn, DecryptsBlocksIn};
+ghost use Rattle.gift128.specs.Calls.{EncryptsBlocksByWordsIn, DecryptsBlocksByWordsIn};
 ghost use Rattle.counter.specs.Calls.{Starts as StartsStream, Feeds as FeedsStream};
 ghost use Rattle.cmac.specs.Calls.{TagsWhole, Checks, Starts, Feeds, TagsState};
 ghost use Rattle.bench_lent.specs.Lent.{Opens, Serves, Takes, Closes};
@@ -109,6 +110,31 @@ pub extern "C" fn gift_decrypt_blocks(
     ensures { λ r. ⌜ DecryptsBlocksIn order (now (key .entry)) (now (input .entry)) (now (output .entry)) r (now (output .exit)) ⌝ }
 {
     gift128::decrypt_blocks(order, key, input, output)
+}
+
+// Many blocks by round words, any eighty, from one buffer to another. Refusals: 13, 4, 2, 3.
+#[no_mangle]
+pub extern "C" fn gift_encrypt_blocks_by_words(
+    order: u32,
+    words: &[u32],
+    input: &[u8],
+    output: &mut [u8],
+) -> u32
+    ensures { λ r. ⌜ EncryptsBlocksByWordsIn order (now (words .entry)) (now (input .entry)) (now (output .entry)) r (now (output .exit)) ⌝ }
+{
+    gift128::encrypt_blocks_by_words(order, words, input, output)
+}
+
+#[no_mangle]
+pub extern "C" fn gift_decrypt_blocks_by_words(
+    order: u32,
+    words: &[u32],
+    input: &[u8],
+    output: &mut [u8],
+) -> u32
+    ensures { λ r. ⌜ DecryptsBlocksByWordsIn order (now (words .entry)) (now (input .entry)) (now (output .entry)) r (now (output .exit)) ⌝ }
+{
+    gift128::decrypt_blocks_by_words(order, words, input, output)
 }
 
 // The bench over the host's own records. Opening: 10, 5, 6, 11, 9, 13, 1, 2.
