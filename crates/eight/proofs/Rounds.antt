@@ -2,7 +2,7 @@
 use mathlib.Core.Path.{_≡_, ap, _∙_}
 use mathlib.Core.Bool.{Bool, true, false}
 use mathlib.Core.List.{List}
-use Prim.Native.Nat.{ℕ, _+_, _*_, _%_, _^_, _<_}
+use Prim.Native.Nat.{ℕ, zero, suc, _+_, _*_, _%_, _^_, _<_}
 use native.Mathlib.Omega.{arith}
 use lib.ListN.{length, getD, drop, length-drop}
 use lib.Seq.{getD-drop}
@@ -11,8 +11,9 @@ use Rattle.published.specs.Rounds.{Pair}
 use Rattle.published.specs.Gift128.{roundsAll}
 use Rattle.published.proofs.Steps.{width128}
 use Rattle.published.proofs.Undone.{rounds-lt, unrounds-lt}
+use Rattle.primitives.specs.declared.State.{State}
 use Rattle.quintuple.specs.declared.Part.{Part}
-use Rattle.quintuple.specs.Quintuple.{good, quintupled, unquintupled}
+use Rattle.quintuple.specs.Quintuple.{quintupled, unquintupled, unseveral}
 use Rattle.quintuple.specs.Inner.{partIn, partOf, fiveOf}
 use Rattle.quintuple.proofs.Five.{all-good}
 use Rattle.quintuple.proofs.Chain.{five-is, unfive-is}
@@ -45,3 +46,11 @@ module _ (ws : List ℕ) (eighty : length ws ≡ 80) (word : (n : ℕ) → getD 
   pub lane-unround : Each (undone p) s r → (k : ℕ) → k < 8 → laneAt r k ≡ unquintupled (laneAt s k) own i
   lane-unround each k h =
       each .lane k h ∙ ap (λ (q : Part). undone q (laneAt s k)) is-part ∙ unfive-is (laneAt s k) own i (omega (arith, many)) (omega arith) start words
+
+-- of several that are undone the last is undone first
+pub last-first : (ws : List ℕ) (n i : ℕ) (s : State) → unseveral ws n i (unquintupled s (drop (2 * (i + 5 * n)) ws) (i + 5 * n)) ≡ unseveral ws (suc n) i s
+unfolding unseveral
+last-first ws zero i s = let none : i + 5 * 0 ≡ i = omega arith in ap (λ (j : ℕ). unquintupled s (drop (2 * j) ws) j) none
+last-first ws (suc n) i s =
+    let on : i + 5 * suc n ≡ i + 5 + 5 * n = omega arith in
+    ap (λ (t : State). unquintupled t (drop (2 * i) ws) i) (ap (λ (j : ℕ). unseveral ws n (i + 5) (unquintupled s (drop (2 * j) ws) j)) on ∙ last-first ws n (i + 5) s)

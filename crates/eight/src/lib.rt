@@ -192,13 +192,15 @@ fn each_unround(s: Lanes, p: Part) -> Lanes
 
 // ---- the forty rounds
 
-// The words of a quintuple and its constants are read before the lanes are gone through.
+// The words of a quintuple and its constants are read before the lanes are gone through. The first quintuple stands before the loop: a function that is
+// called at two places stays one, and its lanes are handed over whole; put into the loop they were taken apart, word by word, after every quintuple.
 fn encrypt_lanes(s: Lanes, rkey: &[u32]) -> Lanes
     requires { ⌜ length (now rkey) ≡ 80 ⌝ }
     ensures { λ r. ⌜ Each (forty false (now (rkey .entry))) s r ⌝ }
 {
-    let mut t = s;
-    let mut i: usize = 0;
+    let first = part_at(rkey, 0);
+    let mut t = each_round(s, first);
+    let mut i: usize = 5;
     while i < 40 {
         let at = 2 * i;
         let p = part_at(&rkey[at..], i);
@@ -212,13 +214,14 @@ fn decrypt_lanes(s: Lanes, rkey: &[u32]) -> Lanes
     requires { ⌜ length (now rkey) ≡ 80 ⌝ }
     ensures { λ r. ⌜ Each (forty true (now (rkey .entry))) s r ⌝ }
 {
-    let mut t = s;
-    let mut i: usize = 40;
+    let last = part_at(&rkey[70..], 35);
+    let mut t = each_unround(s, last);
+    let mut i: usize = 35;
     while 0 < i {
         i -= 5;
         let at = 2 * i;
-        let p = part_at(&rkey[at..], i);
-        t = each_unround(t, p);
+        let q = part_at(&rkey[at..], i);
+        t = each_unround(t, q);
     }
     t
 }
@@ -263,14 +266,14 @@ fn put(s: Lanes, output: &mut [u8])
     let b = s.b;
     let c = s.c;
     let d = s.d;
-    for l in 0..8 {
+    for n in 0..8 {
         let x = State {
-            s0: a[l],
-            s1: b[l],
-            s2: c[l],
-            s3: d[l],
+            s0: a[n],
+            s1: b[n],
+            s2: c[n],
+            s3: d[n],
         };
-        let at = 16 * l;
+        let at = 16 * n;
         let e = at + 16;
         unpacking_words(x, &mut output[at..e]);
     }

@@ -53,14 +53,7 @@ fn unpacked(order: u32, s: State, lent: &mut [u8]) -> u32 {
     0
 }
 
-fn by_words(
-    call: u32,
-    order: u32,
-    s: State,
-    words: &[u32],
-    input: &[u8],
-    lent: &mut [u8],
-) -> u32 {
+fn by_words(call: u32, order: u32, s: State, words: &[u32], input: &[u8], lent: &mut [u8]) -> u32 {
     match call {
         8 => gift128::encrypt_by_words(order, words, lent),
         9 => gift128::decrypt_by_words(order, words, lent),

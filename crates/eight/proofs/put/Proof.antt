@@ -1,4 +1,4 @@
--- `eight::put`: the blocks of the lanes before l are written, one after the other.
+-- `eight::put`: the blocks of the lanes before n are written, one after the other.
 use mathlib.Core.Path.{_≡_, refl, sym, ap, _∙_}
 use mathlib.Core.List.{List}
 use Prim.Native.Nat.{ℕ, _+_, _-_, _*_, _≤_}
@@ -20,11 +20,11 @@ use Rattle.eight.proofs.put.Statement.{statement}
 use Rattle.eight.proofs.put.Tie as tie
 
 abbrev Inv-loop : tie.InvT-loop
-Inv-loop output₀ a b c d l₀ output l =
-    (l ≤ 8) × (length a ≡ 8) × (length b ≡ 8) × (length c ≡ 8) × (length d ≡ 8) × (length output ≡ 128) × (take (16 * l) output ≡ joined l (λ k. writeIn 1 (blockOf (stateAt a b c d k))))
+Inv-loop output₀ a b c d n₀ output n =
+    (n ≤ 8) × (length a ≡ 8) × (length b ≡ 8) × (length c ≡ 8) × (length d ≡ 8) × (length output ≡ 128) × (take (16 * n) output ≡ joined n (λ k. writeIn 1 (blockOf (stateAt a b c d k))))
 
 abbrev μ-loop : tie.MeasureT-loop
-μ-loop output₀ a b c d l₀ output l = 8 - l
+μ-loop output₀ a b c d n₀ output n = 8 - n
 
 loop-holds : tie.Need-loop-holds Inv-loop μ-loop
 loop-holds c = (omega arith, search needs, search needs, search needs, search needs, search needs, sym (joined-none _))
@@ -33,8 +33,8 @@ loop-again : tie.Need-loop-again Inv-loop μ-loop
 loop-again c =
     let call = c .before .before .unpacking-words in
     let q = c .before .before .before .before .before .loop in
-    let room : 16 * q .l + 16 ≤ length (q .output) = omega arith in
-    let part : ℕ = 16 * q .l in
+    let room : 16 * q .n + 16 ≤ length (q .output) = omega arith in
+    let part : ℕ = 16 * q .n in
     let len : length (call .last .1 .0) ≡ 16 = call .kept .1 .0 ∙ one-part 16 part (q .output) room in (
       omega arith,
       q .inv .1,
@@ -42,7 +42,7 @@ loop-again c =
       q .inv .3,
       q .inv .4,
       same-len-mid part (part + 16 - part) (q .output) (call .last .1 .0) (call .kept .1 .0) ∙ q .inv .5,
-      put-more _ (q .output) (call .last .1 .0) _ (q .l) (omega arith) len (q .inv .6)
+      put-more _ (q .output) (call .last .1 .0) _ (q .n) (omega arith) len (q .inv .6)
           (call .ensures ∙ unpacked-block 1 _ _ refl (one-part 16 part (q .output) room)),
     )
 
@@ -53,8 +53,8 @@ returns : tie.Need-returns Inv-loop μ-loop
 returns c =
     let q = c .before .loop in
     let start = c .before .before .before .before .before .before .before in
-    let all : q .l ≡ 8 = omega arith in
-    sym (take-all (16 * q .l) (q .output) (omega arith)) ∙ q .inv .6 ∙ ap (λ (n : ℕ). joined n (λ k. writeIn 1 (blockOf (laneAt (start .args .s) k)))) all
+    let all : q .n ≡ 8 = omega arith in
+    sym (take-all (16 * q .n) (q .output) (omega arith)) ∙ q .inv .6 ∙ ap (λ (n : ℕ). joined n (λ k. writeIn 1 (blockOf (laneAt (start .args .s) k)))) all
 
 pub put-spec : {M : Type 1} → statement M
 put-spec =
