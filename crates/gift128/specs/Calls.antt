@@ -35,11 +35,7 @@ manyCode key input output =
 
 -- many blocks by round words: 4, 2, 3
 unfoldable pub manyWordsCode : (words input output : ℕ) → ℕ
-manyWordsCode words input output =
-    unless (eqb words 80) BAD_WORD_COUNT
-    (unless (eqb (input % 16) 0) BAD_BLOCK_LENGTH
-    (unless (eqb output input) BAD_OUTPUT_LENGTH
-    DONE))
+manyWordsCode words input output = unless (eqb words 80) BAD_WORD_COUNT (unless (eqb (input % 16) 0) BAD_BLOCK_LENGTH (unless (eqb output input) BAD_OUTPUT_LENGTH DONE))
 
 -- making a `Gift128` from a key: 1
 unfoldable pub newCode : (key : ℕ) → ℕ

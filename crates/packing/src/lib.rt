@@ -233,7 +233,7 @@ pub fn packing_words(input: &[u8]) -> State
 pub fn unpacking_words(state: State, output: &mut [u8])
     ensures { λ r. ⌜ now (output .exit) ≡ unpacked 1 state (now (output .entry)) ⌝ }
 {
-    if output.len() == 16 {
+    if 16 == output.len() {
         to_words(state, output);
     }
 }

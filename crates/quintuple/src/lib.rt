@@ -111,10 +111,10 @@ fn round_2(s: State, v: u32, u: u32, c: u32) -> State
     let t = sbox(s);
     let s1 = swapmovesingle(t.s1, 0x55555555, 1);
     // Turned after the swap and not before it: else the compiler pairs s1 and s2 in a wide register, and takes them apart again at once.
-    let t2 = swapmovesingle(t.s2, 0x55550000, 1);
-    let t3 = swapmovesingle(t.s3, 0x00005555, 1);
-    let s2 = ror(t2, 16);
-    let s3 = ror(t3, 16);
+    let x2 = swapmovesingle(t.s2, 0x55550000, 1);
+    let x3 = swapmovesingle(t.s3, 0x00005555, 1);
+    let s2 = ror(x2, 16);
+    let s3 = ror(x3, 16);
     State {
         s0: t.s0 ^ c,
         s1: s1 ^ v,
@@ -376,22 +376,22 @@ pub fn part_at(rkey: &[u32], i: usize) -> Part
 pub fn by_part(s: State, p: Part) -> State
     ensures { λ r. ⌜ r ≡ fiveOf p s ⌝ }
 {
-    let a = round_0(s, p.v0, p.u0, p.c0);
-    let b = round_1(exchanged(a), p.v1, p.u1, p.c1);
-    let c = round_2(exchanged(b), p.v2, p.u2, p.c2);
-    let d = round_3(exchanged(c), p.v3, p.u3, p.c3);
-    let e = round_4(exchanged(d), p.v4, p.u4, p.c4);
-    exchanged(e)
+    let s1 = round_0(s, p.v0, p.u0, p.c0);
+    let s2 = round_1(exchanged(s1), p.v1, p.u1, p.c1);
+    let s3 = round_2(exchanged(s2), p.v2, p.u2, p.c2);
+    let s4 = round_3(exchanged(s3), p.v3, p.u3, p.c3);
+    let s5 = round_4(exchanged(s4), p.v4, p.u4, p.c4);
+    exchanged(s5)
 }
 
 pub fn inv_by_part(s: State, p: Part) -> State
     ensures { λ r. ⌜ r ≡ unfiveOf p (stateOf (blockOf s)) ⌝ }
 {
-    let a = inv_round_4(exchanged(s), p.v4, p.u4, p.c4);
-    let b = inv_round_3(exchanged(a), p.v3, p.u3, p.c3);
-    let c = inv_round_2(exchanged(b), p.v2, p.u2, p.c2);
-    let d = inv_round_1(exchanged(c), p.v1, p.u1, p.c1);
-    inv_round_0(exchanged(d), p.v0, p.u0, p.c0)
+    let s4 = inv_round_4(exchanged(s), p.v4, p.u4, p.c4);
+    let s3 = inv_round_3(exchanged(s4), p.v3, p.u3, p.c3);
+    let s2 = inv_round_2(exchanged(s3), p.v2, p.u2, p.c2);
+    let s1 = inv_round_1(exchanged(s2), p.v1, p.u1, p.c1);
+    inv_round_0(exchanged(s1), p.v0, p.u0, p.c0)
 }
 
 // A word that was kept one round in, put in place again: the swaps of the crate's rearrange_rkey_0, the last first.
