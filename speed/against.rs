@@ -13,7 +13,6 @@ mod primitives;
 use cipher::{Gift128, InOut};
 use std::arch::x86_64::{_mm_lfence, _rdtsc};
 use std::env;
-use std::hint::black_box;
 use std::io::{self, Write};
 
 type Call = unsafe extern "C" fn(u32, *const u8, usize, *const u8, usize, *mut u8, usize) -> u32;
@@ -70,6 +69,15 @@ fn crate_blocks(back: bool, k: [u32; 80], input: &[u8], output: &mut [u8]) {
 }
 
 // ---- times
+
+/// Hides from the compiler what a value is. (`std::hint` has one, and Debian's rustc does not.)
+fn black_box<T>(x: T) -> T {
+    unsafe {
+        let y = std::ptr::read_volatile(&x);
+        std::mem::forget(x);
+        y
+    }
+}
 
 fn now() -> u64 {
     unsafe {

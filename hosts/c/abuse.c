@@ -818,11 +818,11 @@ int main(void)
             many_64(kind % 2);
     }
 
-    printf("%-22s", "number given back:");
+    printf("%-30s", "number given back:");
     for (unsigned number = 0; number < NUMBERS; number++)
         printf("%7u", number);
     for (unsigned kind = 0; kind < PLAIN_ENCRYPT; kind++) {
-        printf("\n%-22s", names[kind]);
+        printf("\n%-30s", names[kind]);
         for (unsigned number = 0; number < NUMBERS; number++)
             printf("%7u", given[kind][number]);
     }
