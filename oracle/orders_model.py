@@ -134,6 +134,26 @@ class Cases:
                             if number:
                                 self.write(way + "_blocks", order=order, key=k, input=lent, lent=buffer, number=number, left=buffer)
 
+    def many_by_words(self, count):
+        """As many blocks as a group of eight has, two groups, and every rest; and the refusals, 13, 4, 2, 3, each before those after it."""
+        self.heading("many blocks by eighty words")
+        for n in range(count):
+            order, words, plains = n % 2, self.words(), [self.some(16) for _ in range(n // 2 % 20)]
+            masks = masks_by(words)
+            secrets = [block(done(number(plain, order), masks), order) for plain in plains]
+            before = self.some(16 * len(plains))
+            self.write("encrypt_blocks_by_words", order=order, words=words, input=b"".join(plains), lent=before, number=0, left=b"".join(secrets))
+            self.write("decrypt_blocks_by_words", order=order, words=words, input=b"".join(secrets), lent=before, number=0, left=b"".join(plains))
+        first = lambda *lines: next((code for code, holds in lines if holds), 0)
+        for order in [0, 1, *OTHERS]:
+            for words in (79, 80):
+                for length in (127, 128):
+                    for out in (length, 144):
+                        for way in ("encrypt", "decrypt"):
+                            code, buffer = first((13, order > 1), (4, words != 80), (2, length != 128), (3, out != length)), self.some(out)
+                            if code:
+                                self.write(way + "_blocks_by_words", order=order, words=self.words(words), input=self.some(length), lent=buffer, number=code, left=buffer)
+
 
 def main():
     storing = sys.argv[1:] == ["--store"]
@@ -145,6 +165,7 @@ def main():
     cases.by_words(count // 2 if storing else count)
     cases.many(count)
     cases.refusals()
+    cases.many_by_words(40 if storing else count)
     if storing:
         store(FIRST, cases.lines)
     else:

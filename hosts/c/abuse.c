@@ -126,14 +126,14 @@ static uint8_t *expected(room *r)
 
 enum {
     ENCRYPT_BY_KEY, DECRYPT_BY_KEY, ENCRYPT_BY_WORDS, DECRYPT_BY_WORDS, EXPAND, ENCRYPT_BLOCKS,
-    DECRYPT_BLOCKS, OPEN_LANE, TURN, TAKE, CLOSE, MAC, MAC_CHECK, MAC_START, MAC_PIECE, MAC_TAG,
+    DECRYPT_BLOCKS, ENCRYPT_BLOCKS_BY_WORDS, DECRYPT_BLOCKS_BY_WORDS, OPEN_LANE, TURN, TAKE, CLOSE, MAC, MAC_CHECK, MAC_START, MAC_PIECE, MAC_TAG,
     STREAM_START, STREAM_PIECE, ENCRYPT_64, DECRYPT_64, ENCRYPT_BLOCKS_64, DECRYPT_BLOCKS_64, PAIRS, WORDS_OF,
     PLAIN_ENCRYPT, PLAIN_DECRYPT, PLAIN_ENCRYPT_64, PLAIN_DECRYPT_64, KINDS
 };
 
 static const char *const names[KINDS] = {
     "gift_encrypt_by_key", "gift_decrypt_by_key", "gift_encrypt_by_words", "gift_decrypt_by_words", "gift_expand", "gift_encrypt_blocks",
-    "gift_decrypt_blocks", "gift_open_lane", "gift_turn", "gift_take", "gift_close",
+    "gift_decrypt_blocks", "gift_encrypt_blocks_by_words", "gift_decrypt_blocks_by_words", "gift_open_lane", "gift_turn", "gift_take", "gift_close",
     "gift_mac", "gift_mac_check", "gift_mac_start", "gift_mac_piece", "gift_mac_tag",
     "gift_stream_start", "gift_stream_piece",
     "gift64_encrypt_by_key", "gift64_decrypt_by_key", "gift64_encrypt_blocks", "gift64_decrypt_blocks", "gift_pairs", "gift_words",
@@ -229,11 +229,17 @@ static void expand(void)
     hold(EXPAND, number, must);
 }
 
+/* Of fewer blocks than a group of eight, and of up to three groups with any rest. */
+static size_t some_blocks(void)
+{
+    return 16 * (below(2) ? below(6) : below(28));
+}
+
 static void many(unsigned direction)
 {
     uint32_t number, must, order = up_to(1);
     lend(&keys, "key", length(16), 1);
-    lend(&blocks, "input", length(16 * below(6)), 1);
+    lend(&blocks, "input", length(some_blocks()), 1);
     lend(&outputs, "output", length(blocks.length), 1);
     must = in_order(order, many_number(keys.length, blocks.length, outputs.length));
     if (must == 0)
@@ -242,6 +248,23 @@ static void many(unsigned direction)
     number = (direction == 0 ? gift_encrypt_blocks : gift_decrypt_blocks)(order, part(&keys), keys.length, part(&blocks), blocks.length,
                                                                           part(&outputs), outputs.length);
     hold(direction == 0 ? ENCRYPT_BLOCKS : DECRYPT_BLOCKS, number, must);
+}
+
+static void many_by_words(unsigned direction)
+{
+    uint32_t number, must, some[80], order = up_to(1);
+    lend(&words, "words", length(80), 4);
+    lend(&blocks, "input", length(some_blocks()), 1);
+    lend(&outputs, "output", length(blocks.length), 1);
+    must = in_order(order, many_words_number(words.length, blocks.length, outputs.length));
+    if (must == 0) {
+        memcpy(some, expected(&words), sizeof some);
+        for (size_t at = 0; at < blocks.length; at += 16)
+            model_by_words(order, direction, some, expected(&blocks) + at, expected(&outputs) + at);
+    }
+    number = (direction == 0 ? gift_encrypt_blocks_by_words : gift_decrypt_blocks_by_words)(order, part(&words), words.length, part(&blocks), blocks.length,
+                                                                                            part(&outputs), outputs.length);
+    hold(direction == 0 ? ENCRYPT_BLOCKS_BY_WORDS : DECRYPT_BLOCKS_BY_WORDS, number, must);
 }
 
 /* ---- the bench ---- */
@@ -791,6 +814,7 @@ int main(void)
         case 2: case 3: by_words(kind % 2); break;
         case 4: expand(); break;
         case 5: case 6: many(kind % 2); break;
+        case 7: case 8: many_by_words(kind % 2); break;
         default: on_the_bench(); break;
         }
     }
@@ -825,11 +849,11 @@ int main(void)
         rows(below(2));
     }
 
-    printf("%-22s", "number given back:");
+    printf("%-30s", "number given back:");
     for (unsigned number = 0; number < NUMBERS; number++)
         printf("%7u", number);
     for (unsigned kind = 0; kind < PLAIN_ENCRYPT; kind++) {
-        printf("\n%-22s", names[kind]);
+        printf("\n%-30s", names[kind]);
         for (unsigned number = 0; number < NUMBERS; number++)
             printf("%7u", given[kind][number]);
     }

@@ -322,6 +322,11 @@ static uint32_t many_number(size_t key_len, size_t input_len, size_t output_len)
     return key_len != 16 ? 1 : input_len % 16 != 0 ? 2 : output_len != input_len ? 3 : 0;
 }
 
+static uint32_t many_words_number(size_t words_len, size_t input_len, size_t output_len)
+{
+    return words_len != 80 ? 4 : input_len % 16 != 0 ? 2 : output_len != input_len ? 3 : 0;
+}
+
 static int sound(const gift_lane *lane)
 {
     if (lane->phase == 0) {

@@ -11,14 +11,13 @@ use Rattle.answers.specs.Order.{unless}
 use Rattle.published.specs.Bytes.{fromBytes, toBytes, Bytes}
 use Rattle.published.specs.Seen.{seen}
 use Rattle.published.specs.Rounds.{Pair}
-use Rattle.published.specs.Gift128.{pairsOf, rounds128, unrounds128, encrypted, decrypted}
-use Rattle.published.proofs.Gift128.{block-lt}
+use Rattle.published.specs.Gift128.{pairsOf, rounds128, unrounds128, roundsAll, encrypted, decrypted}
+use Rattle.published.proofs.Gift128.{block-lt, rounds-all-lt}
 use Rattle.published.proofs.Seen.{inward, outward, permuted, order-1-by-0}
 use Rattle.primitives.specs.declared.State.{State}
 use Rattle.primitives.specs.Packed.{blockOf, stateOf}
 use Rattle.packing.specs.Packing.{noWords, packed, unpacked}
-use Rattle.gift128.specs.Calls.{newWords, roundsAll}
-use Rattle.gift128.proofs.RoundTrip.{rounds-all-lt}
+use Rattle.gift128.specs.Calls.{newWords}
 use Rattle.lane.specs.declared.Lane.{Lane}
 use Rattle.lane.specs.Record.{idle, running, opened, yielded}
 use Rattle.bench.specs.Turning.{laneCount}

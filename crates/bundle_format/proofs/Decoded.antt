@@ -9,10 +9,11 @@ use lib.ListN.{length, take, drop, length-append, length-drop, length-map, take-
 use lib.Seq.{length-take-le, take-at, take-add, drop-drop}
 use Rattle.bits.proofs.Truth.{both, together}
 use Rattle.published.specs.Bytes.{toBytes, Bytes}
+use Rattle.published.proofs.Reading.{bytes-drop}
 use Rattle.bundle_format.specs.Format.{knows, goodValue, goodSetting, goodFrom, header, tableOf, firstBody, rowFor, placed, bodies, totalOf, untagged, tagOf, encode, goodList}
 use Rattle.bundle_format.specs.Reader.{editionOf, countOf, endOf, rowsOf, bodyAt, inPlace, inKind, soundRows, settingOf, settingsOf}
 use Rattle.bundle_format.specs.declared.Row.{Row}
-use Rattle.bundle_format.proofs.Rows.{bytes-drop, number-back, Fits, AllFit, more, length-rowsFrom, rows-fit, rows-back}
+use Rattle.bundle_format.proofs.Rows.{number-back, Fits, AllFit, more, length-rowsFrom, rows-fit, rows-back}
 use Rattle.bundle_format.proofs.Accepted.{Whole}
 use Rattle.bundle_format.proofs.Editions.{good-if, Stands, stands-only, kind-only}
 use Rattle.bundle_format.proofs.Encoded.{listed-if, length-untagged}

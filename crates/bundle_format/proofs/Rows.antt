@@ -3,25 +3,13 @@ use mathlib.Core.Path.{_≡_, refl, sym, ap, ap₂, _∙_}
 use mathlib.Core.List.{List, [], _∷_, _++_, append-assoc}
 use Prim.Native.Nat.{ℕ, zero, suc, _+_, _*_, _^_, _<_, _≤_}
 use native.Mathlib.Omega.{arith}
-use lib.Dec.{lit<}
 use lib.ListN.{length, take, drop, length-append, length-drop}
-use lib.Seq.{length-take-le, take-add, getD-drop}
+use lib.Seq.{length-take-le, take-add}
 use Rattle.published.specs.Bytes.{fromBytes, toBytes, Bytes}
-use Rattle.published.proofs.Reading.{fromBytes-lt, from-to, to-from}
+use Rattle.published.proofs.Reading.{fromBytes-lt, from-to, to-from, bytes-take, bytes-drop}
 use Rattle.bundle_format.specs.Format.{rowBytes, tableOf}
 use Rattle.bundle_format.specs.Reader.{numberAt, rowOf, rowsFrom}
 use Rattle.bundle_format.specs.declared.Row.{Row}
-
--- ---- parts of bytes are bytes
-
-pub bytes-take : (n : ℕ) (b : List ℕ) → Bytes b → Bytes (take n b)
-bytes-take zero b h i = lit< tt
-bytes-take (suc n) [] h i = lit< tt
-bytes-take (suc n) (x ∷ b) h zero = h 0
-bytes-take (suc n) (x ∷ b) h (suc i) = bytes-take n b (λ j. h (suc j)) i
-
-pub bytes-drop : (n : ℕ) (b : List ℕ) → Bytes b → Bytes (drop n b)
-bytes-drop n b h i = rw getD-drop (h (n + i))
 
 -- ---- numbers
 

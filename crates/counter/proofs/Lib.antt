@@ -2,6 +2,7 @@
 -- many bytes at once, what a call has passed, and what each function leaves.
 pub mod Strings
 pub mod Blocks
+pub mod Chunks
 pub mod Jumping
 pub mod Passing
 pub mod Leaving

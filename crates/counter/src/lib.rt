@@ -2,6 +2,7 @@
 mod orders;
 
 use answers::DONE;
+use gift128::encrypt_blocks_by_words;
 use gift128::encrypt_by_words;
 use key_schedule::precompute_rkeys;
 use orders::blocks_needed;
@@ -10,7 +11,7 @@ use orders::start_code;
 use packing::NUMBER;
 ghost use mathlib.Core.Path.{_≡_};
 ghost use mathlib.Core.Bool.{cond};
-ghost use Prim.Native.Nat.{_+_, _*_, _/_, _%_, _<_, _≤_};
+ghost use Prim.Native.Nat.{_+_, _*_, _/_, _%_, _^_, _<_, _≤_};
 ghost use lib.Dec.{eqb};
 ghost use lib.ListN.{length};
 ghost use denote.Ref.{now};
@@ -112,7 +113,33 @@ fn key_block(words: &[u32], nonce: &[u8], counter: usize, block: &mut [u8])
     encrypt_by_words(NUMBER, words, block);
 }
 
-// Whole blocks, as many as there is room for.
+// Counter blocks, as many as there is room for.
+fn counter_blocks(nonce: &[u8], counter: usize, blocks: &mut [u8])
+    requires { ⌜ length (now nonce) ≡ 12 ⌝ }
+    requires { ⌜ counter < 2 ^ 61 ⌝ }
+    requires { ⌜ length (now blocks) % 16 ≡ 0 ⌝ }
+    ensures { λ r. ⌜ now (blocks .exit) ≡ keyBlocks (λ t. t) (now (nonce .entry)) counter (length (now (blocks .entry)) / 16) ⌝ }
+{
+    let mut a: usize = 0;
+    while a < blocks.len() {
+        let e = a + 16;
+        counter_block(nonce, counter + a / 16, &mut blocks[a..e]);
+        a = e;
+    }
+}
+
+// How many bytes of key stream are made at once: all that are left, and no more than 512.
+fn at_once(left: usize) -> usize
+    requires { ⌜ (0 < left) × (left % 16 ≡ 0) ⌝ }
+    ensures { λ r. ⌜ (0 < r) × (r % 16 ≡ 0) × (r ≤ left) × (r ≤ 512) ⌝ }
+{
+    if left < 512 {
+        return left;
+    }
+    512
+}
+
+// Whole blocks, as many as there is room for: counter blocks side by side, and those through the cipher's call on many blocks.
 fn key_blocks(words: &[u32], nonce: &[u8], counter: usize, output: &mut [u8])
     requires { ⌜ length (now words) ≡ 80 ⌝ }
     requires { ⌜ length (now nonce) ≡ 12 ⌝ }
@@ -120,10 +147,13 @@ fn key_blocks(words: &[u32], nonce: &[u8], counter: usize, output: &mut [u8])
     requires { ⌜ length (now output) % 16 ≡ 0 ⌝ }
     ensures { λ r. ⌜ now (output .exit) ≡ keyBlocks (encryptedBy (now (words .entry))) (now (nonce .entry)) counter (length (now (output .entry)) / 16) ⌝ }
 {
+    let mut blocks = [0u8; 512];
     let mut a: usize = 0;
     while a < output.len() {
-        let e = a + 16;
-        key_block(words, nonce, counter + a / 16, &mut output[a..e]);
+        let n = at_once(output.len() - a);
+        let e = a + n;
+        counter_blocks(nonce, counter + a / 16, &mut blocks[0..n]);
+        encrypt_blocks_by_words(NUMBER, words, &blocks[0..n], &mut output[a..e]);
         a = e;
     }
 }

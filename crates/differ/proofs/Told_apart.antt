@@ -9,13 +9,14 @@ use lib.ListN.{length, drop, length-drop}
 use borrow.Author.Tests.{eq-eqb, eqb-true, ne-eqb}
 use Rattle.bits.proofs.Truth.{both, together}
 use Rattle.published.specs.Bytes.{Bytes}
+use Rattle.published.proofs.Reading.{bytes-drop}
 use Rattle.cmac.specs.Calls.{same}
 use Rattle.cmac.proofs.Strings.{same-refl, same-only}
 use Rattle.bundle_format.specs.Format.{knows, firstBody}
 use Rattle.bundle_format.specs.Reader.{countOf, endOf, rowsOf, ABSENT, VALUE, UNKNOWN, bare, tell, tellIn, readCode, Answer, value, absent, unknown, refused, meant}
 use Rattle.bundle_format.specs.declared.Row.{Row}
 use Rattle.bundle_format.specs.declared.Told.{Told}
-use Rattle.bundle_format.proofs.Rows.{bytes-drop, AllFit, more, rows-fit}
+use Rattle.bundle_format.proofs.Rows.{AllFit, more, rows-fit}
 use Rattle.bundle_format.proofs.Accepted.{Whole, accepts}
 use Rattle.differ.specs.Difference.{toldOf, bodyOf, alike}
 use Rattle.differ.specs.Promises.{answer}

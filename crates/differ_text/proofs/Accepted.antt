@@ -10,14 +10,13 @@ use lib.ListN.{length, take, drop, length-append, length-take}
 use borrow.Author.Tests.{leb-true, ltb-true, ltb-false}
 use Rattle.bits.proofs.Truth.{both}
 use Rattle.published.specs.Bytes.{fromBytes, Bytes}
-use Rattle.published.proofs.Reading.{fromBytes-lt}
+use Rattle.published.proofs.Reading.{fromBytes-lt, bytes-take, bytes-drop}
 use Rattle.text.specs.Hex.{hexOf}
 use Rattle.text.specs.Decimal.{decimalOf}
 use Rattle.text.proofs.Lengths.{length-hexOf, number-length}
 use Rattle.bundle_format.specs.Format.{knows, goodValue, firstBody}
 use Rattle.bundle_format.specs.Reader.{countOf, editionOf, rowsOf, bodyAt, soundRows, inKind, readCode, VALUE, UNKNOWN, ABSENT, bare, tell, tellIn, Answer, value, meant}
 use Rattle.bundle_format.specs.declared.Row.{Row}
-use Rattle.bundle_format.proofs.Rows.{bytes-take, bytes-drop}
 use Rattle.bundle_format.proofs.Accepted.{accepts}
 use Rattle.bundle_format.proofs.Editions.{or-else}
 use Rattle.bundle_format.proofs.Decoded.{Sound, sound-only}

@@ -11,8 +11,7 @@ use lib.Seq.{take-suc, take-all, length-take-le}
 use borrow.Author.Tests.{leb-true, leb-false}
 use mathlib.Core.Bool.{Bool, true, false}
 use Rattle.published.specs.Bytes.{fromBytes, Bytes}
-use Rattle.published.proofs.Reading.{fromBytes-lt}
-use Rattle.bundle_format.proofs.Rows.{bytes-take}
+use Rattle.published.proofs.Reading.{fromBytes-lt, bytes-take}
 
 last-byte : (l : List ℕ) (b : ℕ) → fromBytes (l ++ (b ∷ [])) ≡ fromBytes l * 256 + b
 unfolding fromBytes

@@ -9,7 +9,8 @@ use lib.ListN.{length, getD}
 use Rattle.published.specs.Bytes.{Bytes}
 use Rattle.published.specs.Rounds.{Pair}
 use Rattle.published.specs.Seen.{isOrder, seen}
-use Rattle.published.specs.Gift128.{encrypted, decrypted}
+use Rattle.published.specs.Gift128.{roundsAll, encrypted, decrypted}
+use Rattle.published.proofs.Gift128.{rounds-all-lt, all-undone}
 use Rattle.published.proofs.Seen.{seen-again}
 use Rattle.round_words.specs.Arranged.{arranged, stands, wordsFrom, pairsFrom, inRow, ofRow}
 use Rattle.round_words.proofs.Keeping.{Words32, forty, length-words, fit-pairs, fit-words, pairs-words, words-pairs}
@@ -17,9 +18,8 @@ use Rattle.round_words.proofs.Rows.{pair-row, word-row}
 use Rattle.key_schedule.specs.Expand.{expanded}
 use Rattle.key_schedule.proofs.Expanded.{pairs-of-expanded}
 use Rattle.key_schedule.proofs.EqualKeys.{equal-pairs-equal-keys}
-use Rattle.gift128.specs.Calls.{roundsAll, roundsBy, CiphersByWordsIn}
+use Rattle.gift128.specs.Calls.{roundsBy, CiphersByWordsIn}
 use Rattle.gift128.proofs.Answers.{not-refused}
-use Rattle.gift128.proofs.RoundTrip.{rounds-all-lt, all-undone}
 use Rattle.gift128.proofs.Blocks.{crossed-key}
 
 -- 1. Every eighty words stand for exactly one list of forty pairs, and every forty pairs for exactly one eighty words.

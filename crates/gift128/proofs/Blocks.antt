@@ -11,7 +11,8 @@ use Rattle.bits.proofs.Computed.{cond-true}
 use Rattle.published.specs.Bytes.{Bytes}
 use Rattle.published.specs.Seen.{isOrder, readIn, writeIn, seen}
 use Rattle.published.specs.Rounds.{Pair}
-use Rattle.published.specs.Gift128.{pairsOf, rounds128}
+use Rattle.published.specs.Gift128.{pairsOf, rounds128, roundsAll}
+use Rattle.published.proofs.Gift128.{rounds-all-lt}
 use Rattle.published.proofs.Seen.{orders}
 use Rattle.primitives.specs.Packed.{blockOf, stateOf}
 use Rattle.primitives.specs.declared.State.{State}
@@ -23,8 +24,7 @@ use Rattle.packing.proofs.Inverse.{packed-block, unpacked-block}
 use Rattle.quintuple.specs.Quintuple.{firstRound}
 use Rattle.key_schedule.specs.Expand.{expandCode, expanded}
 use Rattle.key_schedule.proofs.Expanded.{pairs-of-expanded, length-expanded}
-use Rattle.gift128.specs.Calls.{roundsAll, roundsBy}
-use Rattle.gift128.proofs.RoundTrip.{rounds-all-lt}
+use Rattle.gift128.specs.Calls.{roundsBy}
 
 -- what f does to the state, the call does to the bytes, seen through their order
 module _ (order : ℕ) (o : isOrder order ≡ true) where

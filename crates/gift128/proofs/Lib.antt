@@ -1,8 +1,8 @@
 -- Laws of the cipher's calls.
 pub mod Answers
-pub mod RoundTrip
 pub mod Blocks
 pub mod Many
+pub mod Ending
 pub mod OrderZero
 pub mod OneOutcome
 pub mod AnyWords

@@ -1,12 +1,10 @@
--- Many blocks of sixteen bytes, as the loop counts them: one more block after those done, and all of them.
-use mathlib.Core.Path.{_≡_, sym, ap, _∙_}
+-- Many blocks of sixteen bytes, as the loop counts them: one more block after those done.
+use mathlib.Core.Path.{_≡_, ap, _∙_}
 use mathlib.Core.List.{List, _++_}
 use Prim.Native.Nat.{ℕ, suc, _+_, _-_, _*_, _/_, _%_, _≤_}
-use native.Mathlib.Nat.{le-of-eq}
 use native.Mathlib.Omega.{arith}
 use lib.ListN.{length, take, drop}
-use lib.Seq.{take-all}
-use Rattle.published.specs.Blocks.{eachOf, allOf}
+use Rattle.published.specs.Blocks.{eachOf}
 use Rattle.published.proofs.Many.{one-more}
 
 -- the block at place a was written: those before a + 16 are
@@ -16,8 +14,3 @@ sixteen-more f input out new rest a h l len before here =
     let at : 16 * (a / 16) ≡ a = omega arith in
     let next : suc (a / 16) ≡ (a + 16) / 16 = omega arith in
     one-more 16 f input out new rest a (a / 16) at l len before here ∙ ap (λ (n : ℕ). eachOf 16 f n input) next
-
-pub all-written : (f : List ℕ → List ℕ) (input out : List ℕ) (a : ℕ) → a ≡ length input → length out ≡ length input → take a out ≡ eachOf 16 f (a / 16) input → out ≡ allOf 16 f input
-unfolding allOf
-all-written f input out a e len done =
-    sym (take-all a out (le-of-eq (len ∙ sym e))) ∙ done ∙ ap (λ (m : ℕ). eachOf 16 f (m / 16) input) e

@@ -6,7 +6,7 @@ use lib.ListN.{replicate}
 use Rattle.answers.specs.Outcome.{OneOutcome}
 use Rattle.answers.proofs.Outcome.{one-outcome}
 use Rattle.key_schedule.specs.Expand.{Expands}
-use Rattle.gift128.specs.Calls.{CiphersByKeyIn, CiphersByWordsIn, CiphersBlocksIn, MakesOneRound, CiphersBlockIn}
+use Rattle.gift128.specs.Calls.{CiphersByKeyIn, CiphersByWordsIn, CiphersBlocksIn, CiphersBlocksByWordsIn, MakesOneRound, CiphersBlockIn}
 
 module _ (back : Bool) (order : ℕ) (key words block input output : List ℕ) where
   pub precompute-rkeys : OneOutcome (Expands key words)
@@ -20,6 +20,9 @@ module _ (back : Bool) (order : ℕ) (key words block input output : List ℕ) w
 
   pub blocks : OneOutcome (CiphersBlocksIn back order key input output)
   blocks = one-outcome _ _ _
+
+  pub blocks-by-words : OneOutcome (CiphersBlocksByWordsIn back order words input output)
+  blocks-by-words = one-outcome _ _ _
 
   pub one-round : OneOutcome (MakesOneRound key block)
   one-round = one-outcome _ _ _

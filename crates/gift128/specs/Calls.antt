@@ -1,5 +1,5 @@
 -- What each call promises: its number, by its refusals in document 01's order, and what then stands in the buffer that was lent to it.
-use mathlib.Core.Bool.{Bool, true, false}
+use mathlib.Core.Bool.{Bool}
 use mathlib.Core.List.{List}
 use Prim.Native.Nat.{ℕ}
 use lib.Dec.{eqb}
@@ -9,9 +9,8 @@ use Rattle.answers.specs.Order.{unless, ifDone}
 use Rattle.answers.specs.Outcome.{Gives}
 use Rattle.published.specs.Bytes.{fromBytes, toBytes}
 use Rattle.published.specs.Seen.{isOrder, seen}
-use Rattle.published.specs.Rounds.{Pair}
-use Rattle.published.specs.Gift128.{pairsOf, rounds128, unrounds128}
-use Rattle.published.specs.Calls.{blockCode, keyCode, manyCode}
+use Rattle.published.specs.Gift128.{pairsOf, rounds128, roundsAll}
+use Rattle.published.specs.Calls.{blockCode, keyCode, blocksCode, manyCode}
 use Rattle.published.specs.Blocks.{allOf}
 use Rattle.round_words.specs.Arranged.{pairsFrom}
 use Rattle.key_schedule.specs.Expand.{expandCode, expanded}
@@ -26,13 +25,13 @@ orderCode order own = unless (isOrder order) BAD_ORDER own
 unfoldable pub wordsCode : (words block : ℕ) → ℕ
 wordsCode words block = unless (eqb words 80) BAD_WORD_COUNT (blockCode block)
 
+-- many blocks by round words: 4, 2, 3
+unfoldable pub manyWordsCode : (words input output : ℕ) → ℕ
+manyWordsCode words input output = unless (eqb words 80) BAD_WORD_COUNT (blocksCode 16 input output)
+
 -- ---- what a call that is done leaves
 
--- the forty rounds, done or undone, of a list of pairs; of eighty round words, whatever they are, those that they stand for
-abbrev pub roundsAll : Bool → List Pair → ℕ → ℕ
-roundsAll false ps = rounds128 ps 0
-roundsAll true ps = unrounds128 ps 0
-
+-- the forty rounds, done or undone, of eighty round words, whatever they are: those of the pairs that they stand for
 abbrev pub roundsBy : (back : Bool) (words : List ℕ) → ℕ → ℕ
 roundsBy back words = roundsAll back (pairsFrom 0 words)
 
@@ -61,6 +60,11 @@ CiphersByWordsIn back order words block = Gives (orderCode order (wordsCode (len
 abbrev pub CiphersBlocksIn : (back : Bool) (order : ℕ) (key input output : List ℕ) → ℕ → List ℕ → Type 0
 CiphersBlocksIn back order key input output =
     Gives (orderCode order (manyCode 16 (length key) (length input) (length output))) (allBlocks (seen order (roundsAll back (pairsOf key))) input) output
+
+-- many blocks by round words
+abbrev pub CiphersBlocksByWordsIn : (back : Bool) (order : ℕ) (words input output : List ℕ) → ℕ → List ℕ → Type 0
+CiphersBlocksByWordsIn back order words input output =
+    Gives (orderCode order (manyWordsCode (length words) (length input) (length output))) (allBlocks (seen order (roundsBy back words)) input) output
 
 abbrev pub MakesOneRound : (key block : List ℕ) → ℕ → List ℕ → Type 0
 MakesOneRound key block = Gives (keyCode (length key) (length block)) (afterOne key block) block

@@ -2,30 +2,34 @@
 mod orders;
 
 use answers::DONE;
+use eight::groups;
 use key_schedule::precompute_rkeys;
 use orders::in_order;
 use orders::key_code;
 use orders::many_code;
+use orders::many_words_code;
 use orders::words_code;
 use packing::NUMBER;
 use packing::packing;
 use packing::unpacking;
 use primitives::State;
 use quintuple::first_round;
-use quintuple::inv_quintuple_round;
-use quintuple::quintuple_round;
+use quintuple::inv_quintuples;
+use quintuple::quintuples;
 ghost use mathlib.Core.Path.{_≡_};
-ghost use mathlib.Core.Bool.{true, false};
-ghost use Prim.Native.Nat.{_%_};
-ghost use lib.ListN.{length, replicate};
+ghost use mathlib.Core.Bool.{true, false, _&&_};
+ghost use Prim.Native.Nat.{_+_, _-_, _/_, _%_, _≤_, _<_};
+ghost use lib.Dec.{leb};
+ghost use lib.ListN.{length, take, replicate};
 ghost use denote.Ref.{now};
+ghost use Rattle.published.specs.Blocks.{eachOf};
 ghost use Rattle.published.specs.Gift128.{rounds128, unrounds128};
 ghost use Rattle.published.specs.Seen.{isOrder, seen};
 ghost use Rattle.primitives.specs.Packed.{blockOf, stateOf};
 ghost use Rattle.round_words.specs.Arranged.{pairsFrom};
 ghost use Rattle.key_schedule.specs.Expand.{Expands};
 ghost use Rattle.gift128.specs.Calls.{roundsBy, allBlocks};
-ghost use Rattle.gift128.specs.Calls.{CiphersByKeyIn, CiphersByWordsIn, CiphersBlocksIn};
+ghost use Rattle.gift128.specs.Calls.{CiphersByKeyIn, CiphersByWordsIn, CiphersBlocksIn, CiphersBlocksByWordsIn};
 ghost use Rattle.gift128.specs.Calls.{MakesOneRound, CiphersBlockIn};
 
 // A cipher instance: its eighty round words. One made from a refused key has eighty zero words, which are those of the all-zero key.
@@ -74,34 +78,20 @@ impl Gift128 {
     }
 }
 
-// The forty rounds, five at a time: each quintuple reads the ten words that start at twice its offset.
+// The forty rounds, five at a time.
 fn encrypt_state(s: State, rkey: &[u32]) -> State
     requires { ⌜ length (now rkey) ≡ 80 ⌝ }
     ensures { λ r. ⌜ r ≡ stateOf (rounds128 (pairsFrom 0 (now (rkey .entry))) 0 (blockOf s)) ⌝ }
 {
-    let mut state = s;
-    let mut i: usize = 0;
-    while i < 40 {
-        let at = 2 * i;
-        state = quintuple_round(state, &rkey[at..], i);
-        i += 5;
-    }
-    state
+    quintuples(s, rkey, 0, 8)
 }
 
-// And undone, from offset 35 down to 0, both included.
+// And undone, the last first.
 fn decrypt_state(s: State, rkey: &[u32]) -> State
     requires { ⌜ length (now rkey) ≡ 80 ⌝ }
     ensures { λ r. ⌜ r ≡ stateOf (unrounds128 (pairsFrom 0 (now (rkey .entry))) 0 (blockOf s)) ⌝ }
 {
-    let mut state = s;
-    let mut i: usize = 40;
-    while 0 < i {
-        i -= 5;
-        let at = 2 * i;
-        state = inv_quintuple_round(state, &rkey[at..], i);
-    }
-    state
+    inv_quintuples(s, rkey, 0, 8)
 }
 
 // Encrypting and decrypting differ in this alone: whether the rounds are done or undone.
@@ -210,8 +200,8 @@ fn into(order: u32, rkey: &[u32], input: &[u8], output: &mut [u8], back: bool)
     unpacking(order, t, output);
 }
 
-// Block n of the output from block n of the input.
-fn all(order: u32, rkey: &[u32], input: &[u8], output: &mut [u8], back: bool)
+// Block n of the output from block n of the input, one after the other.
+fn singles(order: u32, rkey: &[u32], input: &[u8], output: &mut [u8], back: bool)
     requires { ⌜ isOrder order ≡ true ⌝ }
     requires { ⌜ length (now rkey) ≡ 80 ⌝ }
     requires { ⌜ length (now input) % 16 ≡ 0 ⌝ }
@@ -224,6 +214,74 @@ fn all(order: u32, rkey: &[u32], input: &[u8], output: &mut [u8], back: bool)
         into(order, rkey, &input[a..e], &mut output[a..e], back);
         a = e;
     }
+}
+
+// Whether what is left over after place m is better done as the last eight blocks: three or more, where there are eight.
+fn last_eight(n: usize, m: usize) -> bool
+    requires { ⌜ m ≤ n ⌝ }
+    ensures { λ r. ⌜ r ≡ leb 128 n && leb 48 (n - m) ⌝ }
+{
+    if n < 128 {
+        return false;
+    }
+    48 <= n - m
+}
+
+// What is left over, where the blocks before place m are done: singly, or else the last eight blocks as one more group, of which those before m are done
+// again, to the same bytes.
+fn rest(order: u32, rkey: &[u32], input: &[u8], output: &mut [u8], m: usize, back: bool)
+    requires { ⌜ isOrder order ≡ true ⌝ }
+    requires { ⌜ length (now rkey) ≡ 80 ⌝ }
+    requires { ⌜ length (now input) % 16 ≡ 0 ⌝ }
+    requires { ⌜ length (now output) ≡ length (now input) ⌝ }
+    requires { ⌜ (m % 16 ≡ 0) × (m ≤ length (now input)) × (length (now input) < m + 128) ⌝ }
+    requires { ⌜ take m (now output) ≡ eachOf 16 (seen order (roundsBy back (now rkey))) (m / 16) (now input) ⌝ }
+    ensures { λ r. ⌜ now (output .exit) ≡ allBlocks (seen order (roundsBy back (now (rkey .entry)))) (now (input .entry)) ⌝ }
+{
+    if last_eight(input.len(), m) {
+        let e = input.len() - 128;
+        groups(order, rkey, &input[e..], &mut output[e..], back);
+        return;
+    }
+    singles(order, rkey, &input[m..], &mut output[m..], back);
+}
+
+// Whole groups of eight blocks at once, and then what is left over. (What takes more blocks at once would go before.)
+fn all(order: u32, rkey: &[u32], input: &[u8], output: &mut [u8], back: bool)
+    requires { ⌜ isOrder order ≡ true ⌝ }
+    requires { ⌜ length (now rkey) ≡ 80 ⌝ }
+    requires { ⌜ length (now input) % 16 ≡ 0 ⌝ }
+    requires { ⌜ length (now output) ≡ length (now input) ⌝ }
+    ensures { λ r. ⌜ now (output .exit) ≡ allBlocks (seen order (roundsBy back (now (rkey .entry)))) (now (input .entry)) ⌝ }
+{
+    let m = input.len() - input.len() % 128;
+    groups(order, rkey, &input[0..m], &mut output[0..m], back);
+    rest(order, rkey, input, output, m, back);
+}
+
+fn many_by_words(order: u32, rkey: &[u32], input: &[u8], output: &mut [u8], back: bool) -> u32
+    ensures { λ r. ⌜ CiphersBlocksByWordsIn back order (now (rkey .entry)) (now (input .entry)) (now (output .entry)) r (now (output .exit)) ⌝ }
+{
+    let own = many_words_code(rkey.len(), input.len(), output.len());
+    let code = in_order(order, own);
+    if code != DONE {
+        return code;
+    }
+    all(order, rkey, input, output, back);
+    code
+}
+
+// Many blocks by round words, any eighty. Refusals: 13, 4, 2, 3.
+pub fn encrypt_blocks_by_words(order: u32, rkey: &[u32], input: &[u8], output: &mut [u8]) -> u32
+    ensures { λ r. ⌜ CiphersBlocksByWordsIn false order (now (rkey .entry)) (now (input .entry)) (now (output .entry)) r (now (output .exit)) ⌝ }
+{
+    many_by_words(order, rkey, input, output, false)
+}
+
+pub fn decrypt_blocks_by_words(order: u32, rkey: &[u32], input: &[u8], output: &mut [u8]) -> u32
+    ensures { λ r. ⌜ CiphersBlocksByWordsIn true order (now (rkey .entry)) (now (input .entry)) (now (output .entry)) r (now (output .exit)) ⌝ }
+{
+    many_by_words(order, rkey, input, output, true)
 }
 
 fn many_by_key(order: u32, key: &[u8], input: &[u8], output: &mut [u8], back: bool) -> u32

@@ -1,2 +1,2 @@
--- What the rounds on sliced words do. The calls promise what `EncryptsByKey64` .. `DecryptsBlocks64` of the crate published say.
+-- What the rounds on sliced words do. The calls promise what `CiphersByKey64` and `CiphersBlocks64` of the crate published say.
 pub mod Inner

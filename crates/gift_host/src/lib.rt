@@ -18,7 +18,7 @@ ghost use Rattle.published.specs.Calls.{CiphersByKey};
 ghost use Rattle.published.specs.Calls64.{CiphersByKey64, CiphersBlocks64};
 ghost use Rattle.round_words.specs.Calls.{TellsPairs, TellsWords};
 ghost use Rattle.key_schedule.specs.Expand.{Expands};
-ghost use Rattle.gift128.specs.Calls.{CiphersByKeyIn, CiphersByWordsIn, CiphersBlocksIn};
+ghost use Rattle.gift128.specs.Calls.{CiphersByKeyIn, CiphersByWordsIn, CiphersBlocksIn, CiphersBlocksByWordsIn};
 ghost use Rattle.counter.specs.Calls.{Starts as StartsStream, Feeds as FeedsStream};
 ghost use Rattle.cmac.specs.Calls.{TagsWhole, Checks, Starts, Feeds, TagsState};
 ghost use Rattle.bench_lent.specs.Lent.{Opens, Serves, Takes, Closes};
@@ -128,6 +128,31 @@ pub extern "C" fn gift_decrypt_blocks(
     ensures { λ r. ⌜ CiphersBlocksIn true order (now (key .entry)) (now (input .entry)) (now (output .entry)) r (now (output .exit)) ⌝ }
 {
     gift128::decrypt_blocks(order, key, input, output)
+}
+
+// Many blocks by round words, any eighty, from one buffer to another. Refusals: 13, 4, 2, 3.
+#[no_mangle]
+pub extern "C" fn gift_encrypt_blocks_by_words(
+    order: u32,
+    words: &[u32],
+    input: &[u8],
+    output: &mut [u8],
+) -> u32
+    ensures { λ r. ⌜ CiphersBlocksByWordsIn false order (now (words .entry)) (now (input .entry)) (now (output .entry)) r (now (output .exit)) ⌝ }
+{
+    gift128::encrypt_blocks_by_words(order, words, input, output)
+}
+
+#[no_mangle]
+pub extern "C" fn gift_decrypt_blocks_by_words(
+    order: u32,
+    words: &[u32],
+    input: &[u8],
+    output: &mut [u8],
+) -> u32
+    ensures { λ r. ⌜ CiphersBlocksByWordsIn true order (now (words .entry)) (now (input .entry)) (now (output .entry)) r (now (output .exit)) ⌝ }
+{
+    gift128::decrypt_blocks_by_words(order, words, input, output)
 }
 
 // The bench over the host's own records. Opening: 10, 5, 6, 11, 9, 13, 1, 2.

@@ -3,7 +3,7 @@ use mathlib.Core.Path.{_≡_, sym, ap, ap₂, _∙_}
 use mathlib.Core.List.{List, _++_}
 use Prim.Native.Nat.{ℕ, zero, suc, _*_}
 use lib.Dec.{lit<}
-use lib.ListN.{length, take}
+use lib.ListN.{length, take, drop, take-append-drop}
 use Rattle.published.specs.Bytes.{fromBytes, Bytes}
 use Rattle.published.specs.Key.{update, pairs}
 use Rattle.published.specs.Gift128.{pairOf, pairsOf}
@@ -12,7 +12,7 @@ use Rattle.round_words.specs.Arranged.{pairsFrom, inRow}
 use Rattle.round_words.proofs.Keeping.{Words32, length-words, pairs-words}
 use Rattle.key_schedule.specs.declared.Ten.{Ten}
 use Rattle.key_schedule.specs.Expand.{expanded}
-use Rattle.key_schedule.specs.InnerTens.{firstWords, fiveRounds, fiveLater, wordsOf, following, grown}
+use Rattle.key_schedule.specs.InnerTens.{firstWords, fiveRounds, fiveLater, wordsOf, tens, following, grown}
 use Rattle.key_schedule.proofs.KeyState.{u-lt, v-lt, fourOf, four-later, tens-of}
 use Rattle.key_schedule.proofs.KeyBytes.{first-words-are}
 
@@ -46,7 +46,8 @@ grown-expanded key rest len bytes =
     ap₂ (λ (a b : Ten). wordsOf a ++ (wordsOf b ++ following 6 a b)) (ap fiveRounds first) (ap fiveRounds (ap fiveLater first ∙ sym (four-later k)))
     ∙ sym (tens-of 6 k)
 
--- the same as the stores leave it: ten words at 0, and then ten at 10
-pub filled : (key one two more rest : List ℕ) → length key ≡ 16 → Bytes key → one ≡ wordsOf (fiveRounds (firstWords key))
-    → two ≡ wordsOf (fiveRounds (fiveLater (firstWords key))) → grown (take 10 (one ++ more) ++ (two ++ rest)) ≡ expanded key
-filled key one two more rest len bytes e f = rw (e, f) (grown-expanded key rest len bytes)
+-- the same as the loop leaves it: two tens in front, whatever comes after them
+pub begun : (key xs : List ℕ) → length key ≡ 16 → Bytes key → take 20 xs ≡ tens 2 (firstWords key) → grown xs ≡ expanded key
+unfolding tens
+begun key xs len bytes e =
+    ap grown (sym (take-append-drop 20 xs) ∙ ap (λ (l : List ℕ). l ++ drop 20 xs) e) ∙ grown-expanded key (drop 20 xs) len bytes

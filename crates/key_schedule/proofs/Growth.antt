@@ -5,8 +5,9 @@ use Prim.Native.Nat.{ℕ, suc, _+_, _-_, _*_, _≤_}
 use native.Mathlib.Omega.{arith}
 use lib.ListN.{length, take, drop, length-append, length-drop, take-append-drop}
 use lib.Seq.{length-take-le, take-at, drop-at, take-all, take-append-le, drop-append-le}
+use Rattle.key_schedule.specs.declared.Four.{Four}
 use Rattle.key_schedule.specs.declared.Ten.{Ten}
-use Rattle.key_schedule.specs.InnerTens.{wordsOf, tenOf, tenAt, tenLater, following}
+use Rattle.key_schedule.specs.InnerTens.{wordsOf, tenOf, tenAt, tenLater, fiveRounds, fiveLater, tens, following}
 
 -- the words ws at place p of xs, whatever comes after them
 module _ (xs ws rest : List ℕ) (p : ℕ) (inside : p ≤ length xs) where
@@ -67,3 +68,13 @@ turn xs ys rest g m inside e =
 pub no-more : (xs : List ℕ) (a : ℕ) → length xs ≤ a + 20 → grownFrom xs a 0 ≡ xs
 unfolding following
 no-more xs a h = append-nil (take (a + 20) xs) ∙ take-all (a + 20) xs h
+
+-- ten words stored behind those of the rounds before, where n tens are still to come
+pub ten-more : (xs ys rest : List ℕ) (g n : ℕ) (w v : Four) → 10 * g ≤ length xs → ys ≡ wordsOf (fiveRounds w) → v ≡ fiveLater w
+    → take (10 * (g + 1)) (take (10 * g) xs ++ (ys ++ rest)) ++ tens n v ≡ take (10 * g) xs ++ tens (suc n) w
+unfolding tens
+ten-more xs ys rest g n w v inside e f =
+    let next : 10 * (g + 1) ≡ 10 * g + 10 = omega arith in
+    ap₂ (λ (k : ℕ) (l : List ℕ). take k (take (10 * g) xs ++ (l ++ rest)) ++ tens n v) next e
+    ∙ ap₂ (λ (l : List ℕ) (u : Four). l ++ tens n u) (take-stored xs (wordsOf (fiveRounds w)) rest (10 * g) inside) f
+    ∙ append-assoc (take (10 * g) xs) (wordsOf (fiveRounds w)) (tens n (fiveLater w))

@@ -1,8 +1,8 @@
 -- The words of the first two rounds: read from four bytes of the key each, they are the published U, V of the key read as one number.
 use mathlib.Core.Path.{_≡_, refl, sym, ap, ap₂, _∙_}
 use mathlib.Core.Bool.{Bool, true, false, cond}
-use mathlib.Core.List.{List, [], _∷_}
-use Prim.Native.Nat.{ℕ, zero, suc, _+_, _-_, _*_, _/_, _%_, _^_, _≤_, _<_}
+use mathlib.Core.List.{List}
+use Prim.Native.Nat.{ℕ, _+_, _-_, _*_, _/_, _%_, _^_, _≤_, _<_}
 use native.Mathlib.Omega.{arith}
 use lib.Arith.{digits-lt}
 use lib.Dec.{ltb, lit<}
@@ -16,17 +16,11 @@ use Rattle.published.specs.Bytes.{fromBytes, Bytes}
 use Rattle.published.specs.Rounds.{Pair}
 use Rattle.published.specs.Key.{_‖_}
 use Rattle.published.specs.Gift128.{pairOf}
-use Rattle.published.proofs.Reading.{bit-fromBytes, fromBytes-lt}
+use Rattle.published.proofs.Reading.{bit-fromBytes, fromBytes-lt, bytes-take}
 use Rattle.key_schedule.specs.InnerTens.{firstWords}
 use Rattle.key_schedule.proofs.Updates.{bit-join}
 use Rattle.key_schedule.proofs.TenWords.{same-four}
 use Rattle.key_schedule.proofs.KeyState.{one-on, fourOf}
-
-bytes-take : (n : ℕ) (bs : List ℕ) → Bytes bs → Bytes (take n bs)
-bytes-take zero bs h i = lit< tt
-bytes-take (suc n) [] h i = lit< tt
-bytes-take (suc n) (b ∷ bs) h zero = h 0
-bytes-take (suc n) (b ∷ bs) h (suc i) = bytes-take n bs (λ j. h (suc j)) i
 
 module _ (key : List ℕ) (len : length key ≡ 16) (bytes : Bytes key) where
   half-lt : (i : ℕ) → digit 65536 (fromBytes key) i < 2 ^ 16

@@ -84,6 +84,11 @@ tenOf ws =
 abbrev pub tenAt : List ℕ → ℕ → Ten
 tenAt ws i = tenOf (take 10 (drop i ws))
 
+-- the words of n times five rounds, from V and U of the first two
+unfoldable pub tens : ℕ → Four → List ℕ
+tens zero w = []
+tens (suc n) w = wordsOf (fiveRounds w) ++ tens n (fiveLater w)
+
 -- n tens that follow the tens a, b, each made of the ten that stands two before it
 unfoldable pub following : ℕ → Ten → Ten → List ℕ
 following zero a b = []

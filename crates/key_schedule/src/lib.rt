@@ -10,12 +10,12 @@ use round_words::rearrange_rkey_1;
 use round_words::rearrange_rkey_2;
 use round_words::rearrange_rkey_3;
 ghost use mathlib.Core.Path.{_≡_};
-ghost use lib.ListN.{length};
+ghost use lib.ListN.{length, take};
 ghost use Rattle.published.specs.Bytes.{fromBytes};
 ghost use Rattle.primitives.specs.Words.{permuted};
 ghost use Rattle.key_schedule.specs.Expand.{expandCode, expanded, Expands};
 ghost use Rattle.key_schedule.specs.InnerUpdate.{updated, later, tripled};
-ghost use Rattle.key_schedule.specs.InnerTens.{firstWords, keyWords, fiveRounds, fiveLater, tenLater, wordsOf, tenOf, grown};
+ghost use Rattle.key_schedule.specs.InnerTens.{firstWords, keyWords, fiveRounds, fiveLater, tenLater, wordsOf, tenOf, tens, grown};
 
 // (k1 rotated right 2) ‖ (k0 rotated right 12).
 pub fn key_update(x: u32) -> u32
@@ -247,6 +247,20 @@ fn store(ws: &mut [u32], t: Ten)
     ws[9] = t.u4;
 }
 
+// The first twenty words: a loop of two, so that five_rounds is called at one place, and the compiler puts its text there.
+fn begin(w: Four, rkey: &mut [u32])
+    requires { ⌜ length (now rkey) ≡ 80 ⌝ }
+    ensures { λ _. ⌜ take 20 (now (rkey .exit)) ≡ tens 2 w ⌝ }
+{
+    let mut f = w;
+    for g in 0..2 {
+        let a = 10 * g;
+        let e = a + 10;
+        store(&mut rkey[a..e], five_rounds(f));
+        f = five_later(f);
+    }
+}
+
 // The sixty words that follow the first twenty.
 fn extend(rkey: &mut [u32])
     requires { ⌜ length (now rkey) ≡ 80 ⌝ }
@@ -267,9 +281,7 @@ fn expand(key: &[u8], rkey: &mut [u32])
     requires { ⌜ length (now rkey) ≡ 80 ⌝ }
     ensures { λ _. ⌜ now (rkey .exit) ≡ expanded (now (key .entry)) ⌝ }
 {
-    let w = first_words(key);
-    store(&mut rkey[0..10], five_rounds(w));
-    store(&mut rkey[10..20], five_rounds(five_later(w)));
+    begin(first_words(key), rkey);
     extend(rkey);
 }
 

@@ -4,8 +4,8 @@ use packing::is_order;
 use packing::packing;
 use packing::unpacking;
 use primitives::State;
-use quintuple::inv_quintuple_round;
-use quintuple::quintuple_round;
+use quintuple::inv_quintuples;
+use quintuple::quintuples;
 ghost use mathlib.Core.Path.{_≡_};
 ghost use Prim.Native.Nat.{_<_};
 ghost use lib.Dec.{eqb};
@@ -142,12 +142,9 @@ fn advanced(l: Lane) -> State
     let state = l.state;
     let done = 5 * (l.count as usize);
     if l.direction == ENCRYPT {
-        let from = 2 * done;
-        return quintuple_round(state, &words[from..], done);
+        return quintuples(state, &words, done, 1);
     }
-    let left = 35 - done;
-    let from = 2 * left;
-    inv_quintuple_round(state, &words[from..], left)
+    inv_quintuples(state, &words, 35 - done, 1)
 }
 
 // A turn of the lane's own. (A count of 8 or more, which no sound running record has, stays as it is.)

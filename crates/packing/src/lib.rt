@@ -214,6 +214,30 @@ pub fn unpacking(order: u32, state: State, output: &mut [u8])
     }
 }
 
+// ---- order 1 alone, for the one who packs several blocks and moves their bits afterwards
+
+pub fn packing_words(input: &[u8]) -> State
+    ensures { λ r. ⌜ r ≡ packed 1 (now (input .entry)) ⌝ }
+{
+    if input.len() != 16 {
+        return State {
+            s0: 0,
+            s1: 0,
+            s2: 0,
+            s3: 0,
+        };
+    }
+    from_words(input)
+}
+
+pub fn unpacking_words(state: State, output: &mut [u8])
+    ensures { λ r. ⌜ now (output .exit) ≡ unpacked 1 state (now (output .entry)) ⌝ }
+{
+    if 16 == output.len() {
+        to_words(state, output);
+    }
+}
+
 // ---- GIFT-64: a block is one half, and word j its piece j
 
 // Eight bytes are packed, into the low halves of the words; of any other number of bytes come four zero words.

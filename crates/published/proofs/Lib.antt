@@ -10,6 +10,7 @@ pub mod Gift64
 pub mod Calls
 pub mod Calls64
 pub mod Many
+pub mod Groups
 pub mod Listed
 pub mod Words
 pub mod Seen

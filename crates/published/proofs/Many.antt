@@ -17,7 +17,7 @@ module _ (size : ℕ) where
   next n = add-comm size (size * n) ∙ sym (mul-suc size n)
 
   -- one more block, at the end
-  each-more : (f : List ℕ → List ℕ) (n : ℕ) (input : List ℕ) → eachOf size f (suc n) input ≡ eachOf size f n input ++ f (take size (drop (size * n) input))
+  pub each-more : (f : List ℕ → List ℕ) (n : ℕ) (input : List ℕ) → eachOf size f (suc n) input ≡ eachOf size f n input ++ f (take size (drop (size * n) input))
   unfolding eachOf
   each-more f zero input = append-nil (f (take size input)) ∙ ap (λ (m : ℕ). f (take size (drop m input))) (sym (mul-zero size))
   each-more f (suc n) input =
@@ -26,7 +26,7 @@ module _ (size : ℕ) where
       ∙ ap (λ (l : List ℕ). (f (take size input) ++ eachOf size f n (drop size input)) ++ f (take size l)) (drop-drop (size * n) size input ∙ ap (λ (m : ℕ). drop m input) (next n))
 
   -- what stands before the end of a part that was written
-  written : (a : ℕ) (out new rest : List ℕ) → a ≤ length out → length new ≡ size → take (a + size) (take a out ++ (new ++ rest)) ≡ take a out ++ new
+  pub written : (a : ℕ) (out new rest : List ℕ) → a ≤ length out → length new ≡ size → take (a + size) (take a out ++ (new ++ rest)) ≡ take a out ++ new
   written a out new rest h len =
       let front : length (take a out) ≡ a = rw length-take (omega arith) in
       ap (λ (m : ℕ). take m (take a out ++ (new ++ rest))) (ap₂ _+_ (sym front) (sym len))

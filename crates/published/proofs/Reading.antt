@@ -7,7 +7,8 @@ use native.Mathlib.Nat.{le-refl, le-of-suc-le, le-of-suc-le-suc, not-suc-le-zero
 use native.Mathlib.Omega.{arith}
 use lib.Arith.{digits-lt}
 use lib.Dec.{lit<}
-use lib.ListN.{length, getD}
+use lib.ListN.{length, getD, take, drop}
+use lib.Seq.{getD-drop}
 use Rattle.bits.specs.Digit.{digit, number, bit}
 use Rattle.bits.proofs.Digits.{number-digit, digit-lt, digit-top, digit-below}
 use Rattle.bits.proofs.Bits.{bit-digit}
@@ -32,6 +33,16 @@ pub bytes-append : (bs cs : List ℕ) → Bytes bs → Bytes cs → Bytes (bs ++
 bytes-append [] cs h k i = k i
 bytes-append (b ∷ bs) cs h k zero = h 0
 bytes-append (b ∷ bs) cs h k (suc i) = bytes-append bs cs (λ j. h (suc j)) k i
+
+-- parts of bytes are bytes
+pub bytes-take : (n : ℕ) (b : List ℕ) → Bytes b → Bytes (take n b)
+bytes-take zero b h i = lit< tt
+bytes-take (suc n) [] h i = lit< tt
+bytes-take (suc n) (x ∷ b) h zero = h 0
+bytes-take (suc n) (x ∷ b) h (suc i) = bytes-take n b (λ j. h (suc j)) i
+
+pub bytes-drop : (n : ℕ) (b : List ℕ) → Bytes b → Bytes (drop n b)
+bytes-drop n b h i = rw getD-drop (h (n + i))
 
 pub bytes-toBytes : (k x : ℕ) → Bytes (toBytes k x)
 unfolding toBytes

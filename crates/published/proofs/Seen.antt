@@ -158,6 +158,13 @@ outwards x h =
     ∙ sym (ap (λ (z : ℕ). bit z (outward p)) (sym (words-written x h) ∙ inwards (writeWords x) len b) ∙ bit-ofBits 128 (λ q. bit y (inward q)) (outward p) (bounded 128 128 outward tt p l))
     ∙ sym (bit-ofBits 128 (λ p. bit x (outward p)) p l)))
 
+-- Bytes of one order, read in the other.
+pub read-words-number : (x : ℕ) → x < 2 ^ 128 → readIn 1 (writeIn 0 x) ≡ placed inward x
+read-words-number x h = inwards (toBytes 16 x) (length-toBytes 16 x) (bytes-toBytes 16 x) ∙ ap (placed inward) (from-to 16 x h)
+
+pub read-number-words : (x : ℕ) → x < 2 ^ 128 → readIn 0 (writeIn 1 x) ≡ placed outward x
+read-number-words x h = ap fromBytes (outwards x h) ∙ from-to 16 (placed outward x) (ofBits-lt 128 (λ p. bit x (outward p)))
+
 -- Whatever is done to a block: order 1's answer is order 0's answer on the block permuted by one fixed permutation of bits, permuted back.
 pub order-1-by-0 : (f : ℕ → ℕ) → ((x : ℕ) → x < 2 ^ 128 → f x < 2 ^ 128) → (bytes : List ℕ) → length bytes ≡ 16 → Bytes bytes
     → seen 1 f bytes ≡ permuted outward (seen 0 f (permuted inward bytes))

@@ -11,3 +11,8 @@ eachOf size f (suc n) input = f (take size input) ++ eachOf size f n (drop size 
 -- all of them
 unfoldable pub allOf : (size : ℕ) → (List ℕ → List ℕ) → List ℕ → List ℕ
 allOf size f input = eachOf size f (length input / size) input
+
+-- n lists, one after the other
+unfoldable pub joined : ℕ → (ℕ → List ℕ) → List ℕ
+joined zero g = []
+joined (suc n) g = joined n g ++ g n

@@ -16,13 +16,12 @@ blockCode block = unless (eqb block 16) BAD_BLOCK_LENGTH DONE
 unfoldable pub keyCode : (key block : ℕ) → ℕ
 keyCode key block = unless (eqb key 16) BAD_KEY_LENGTH (blockCode block)
 
--- many blocks of `size` bytes by a key: 1, 2, 3
+-- many blocks of `size` bytes: 2, 3; by a key: 1 before them
+abbrev pub blocksCode : (size input output : ℕ) → ℕ
+blocksCode size input output = unless (eqb (input % size) 0) BAD_BLOCK_LENGTH (unless (eqb output input) BAD_OUTPUT_LENGTH DONE)
+
 unfoldable pub manyCode : (size key input output : ℕ) → ℕ
-manyCode size key input output =
-    unless (eqb key 16) BAD_KEY_LENGTH
-    (unless (eqb (input % size) 0) BAD_BLOCK_LENGTH
-    (unless (eqb output input) BAD_OUTPUT_LENGTH
-    DONE))
+manyCode size key input output = unless (eqb key 16) BAD_KEY_LENGTH (blocksCode size input output)
 
 -- the promise of one block by a key: encrypted, or (back) decrypted
 abbrev pub CiphersByKey : (back : Bool) (key block : List ℕ) → ℕ → List ℕ → Type 0

@@ -1,4 +1,5 @@
 -- GIFT-128: forty rounds of a key of 16 bytes on a block of 16 bytes, and their undoing.
+use mathlib.Core.Bool.{Bool, true, false}
 use mathlib.Core.List.{List}
 use Prim.Native.Nat.{ℕ}
 use Rattle.bits.specs.Digit.{digit}
@@ -19,6 +20,11 @@ rounds128 = rounds 128 1
 
 abbrev pub unrounds128 : List Pair → ℕ → ℕ → ℕ
 unrounds128 = unrounds 128 1
+
+-- done, or undone
+abbrev pub roundsAll : (back : Bool) → List Pair → ℕ → ℕ
+roundsAll false ps = rounds128 ps 0
+roundsAll true ps = unrounds128 ps 0
 
 unfoldable pub encrypted : List ℕ → List ℕ → List ℕ
 encrypted key block = toBytes 16 (rounds128 (pairsOf key) 0 (fromBytes block))

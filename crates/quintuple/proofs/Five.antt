@@ -21,7 +21,6 @@ use Rattle.primitives.proofs.Moves.{bit-permuted}
 use Rattle.primitives.proofs.Blocks.{stateOf-blockOf}
 use Rattle.round_words.specs.Arranged.{nibbleAt, stands, arranged, constantWord, pairsFrom}
 use Rattle.round_words.proofs.Arrangements.{arranged-lt, stands-arranged}
-use Rattle.quintuple.specs.declared.Part.{Part}
 use Rattle.quintuple.specs.Quintuple.{good, quintupled, unquintupled}
 use Rattle.quintuple.specs.Inner.{exchangedOf, subround, unsubround, tabled, blockIn}
 use Rattle.quintuple.proofs.Fixslice.{constant-lt, subround-is-round, unsubround-is-unround}
@@ -64,10 +63,6 @@ carried k r r′ c hk at same e =
     ap (stands (suc k))
     (e ∙ ap₂ (λ (j m : ℕ). arranged (suc j) (2 ^ 31 + constant (suc m))) at same)
     ∙ stands-arranged (suc k) (2 ^ 31 + constant (suc r′)) (suc-le-suc hk) (omega (arith, constant-lt (suc r′)))
-
--- what a function of a quintuple's part gives, by what the part was read to be
-pub by-part : (f : Part → State) (p q : Part) (a : State) → a ≡ f p → p ≡ q → a ≡ f q
-by-part f p q a made read = made ∙ ap f read
 
 -- one more round
 pub go-on : (k : ℕ) (x a y : State) (v u c r b : ℕ) → k < 5 → stands (suc k) c ≡ 2 ^ 31 + constant r → blockIn k x ≡ b → a ≡ subround k x v u c → y ≡ exchangedOf a

@@ -5,4 +5,6 @@ pub mod Shapes
 pub mod Sliced
 pub mod Fixslice
 pub mod Five
+pub mod Chain
 pub mod Eight
+pub mod Several

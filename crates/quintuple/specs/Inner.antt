@@ -1,4 +1,5 @@
 -- Inner: the block that words stand for within a quintuple, and what the private functions make of such words. The moves are said by what they mean, not by how the code makes them.
+use mathlib.Core.Bool.{cond}
 use mathlib.Core.List.{List}
 use Prim.Native.Nat.{ℕ, suc, _+_, _-_, _*_, _/_, _%_}
 use lib.Bits.{bitXor}
@@ -12,6 +13,7 @@ use Rattle.primitives.specs.Packed.{wordOf}
 use Rattle.round_words.specs.Arranged.{nibbleAt, constantWord}
 use Rattle.quintuple.specs.declared.Part.{Part}
 use Rattle.quintuple.specs.Boxes.{substituted, boxed}
+use Rattle.quintuple.specs.Quintuple.{good}
 
 -- the block of n bits that four words stand for, nibble m standing at place `place m` of each word
 abbrev pub blockAt : ℕ → (ℕ → ℕ) → State → ℕ
@@ -78,3 +80,44 @@ partOf ws i =
       u4 = getD ws 9 0;
       c4 = tabled (i + 4);
     }
+
+-- where no quintuple starts: nothing to go by
+abbrev pub noPart : Part
+noPart =
+    record {
+      v0 = 0;
+      u0 = 0;
+      c0 = 0;
+      v1 = 0;
+      u1 = 0;
+      c1 = 0;
+      v2 = 0;
+      u2 = 0;
+      c2 = 0;
+      v3 = 0;
+      u3 = 0;
+      c3 = 0;
+      v4 = 0;
+      u4 = 0;
+      c4 = 0;
+    }
+
+unfoldable pub partIn : List ℕ → ℕ → Part
+partIn ws i = cond (good ws i) (partOf ws i) noPart
+
+-- five rounds by a part, each from words in their places, and undone, the last first
+unfoldable pub fiveOf : Part → State → State
+fiveOf p s =
+    let a : State = exchangedOf (subround 0 s (p .v0) (p .u0) (p .c0)) in
+    let b : State = exchangedOf (subround 1 a (p .v1) (p .u1) (p .c1)) in
+    let d : State = exchangedOf (subround 2 b (p .v2) (p .u2) (p .c2)) in
+    let e : State = exchangedOf (subround 3 d (p .v3) (p .u3) (p .c3)) in
+    exchangedOf (subround 4 e (p .v4) (p .u4) (p .c4))
+
+unfoldable pub unfiveOf : Part → State → State
+unfiveOf p s =
+    let a : State = unsubround 4 (exchangedOf s) (p .v4) (p .u4) (p .c4) in
+    let b : State = unsubround 3 (exchangedOf a) (p .v3) (p .u3) (p .c3) in
+    let d : State = unsubround 2 (exchangedOf b) (p .v2) (p .u2) (p .c2) in
+    let e : State = unsubround 1 (exchangedOf d) (p .v1) (p .u1) (p .c1) in
+    unsubround 0 (exchangedOf e) (p .v0) (p .u0) (p .c0)

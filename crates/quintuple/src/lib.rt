@@ -14,14 +14,16 @@ use primitives::nibble_ror_3;
 use primitives::ror;
 use primitives::swapmovesingle;
 ghost use mathlib.Core.Path.{_≡_};
+ghost use mathlib.Core.Bool.{cond};
 ghost use Prim.Native.Nat.{_≤_};
 ghost use lib.ListN.{length};
 ghost use Rattle.published.specs.Rounds.{entry};
 ghost use Rattle.published.specs.Inner.{unentry};
+ghost use Rattle.primitives.specs.Packed.{blockOf, stateOf};
 ghost use Rattle.round_words.specs.Arranged.{stands};
 ghost use Rattle.quintuple.specs.Boxes.{boxed};
-ghost use Rattle.quintuple.specs.Quintuple.{good, quintupled, unquintupled, firstRound};
-ghost use Rattle.quintuple.specs.Inner.{exchangedOf, subround, unsubround, partOf};
+ghost use Rattle.quintuple.specs.Quintuple.{good, quintupled, unquintupled, reach, several, unseveral, firstRound};
+ghost use Rattle.quintuple.specs.Inner.{exchangedOf, subround, unsubround, partOf, partIn, fiveOf, unfiveOf};
 
 pub mod consts;
 
@@ -107,11 +109,12 @@ fn round_2(s: State, v: u32, u: u32, c: u32) -> State
     ensures { λ r. ⌜ r ≡ subround 2 s v u c ⌝ }
 {
     let t = sbox(s);
-    let t3 = ror(t.s3, 16);
-    let t2 = ror(t.s2, 16);
     let s1 = swapmovesingle(t.s1, 0x55555555, 1);
-    let s2 = swapmovesingle(t2, 0x00005555, 1);
-    let s3 = swapmovesingle(t3, 0x55550000, 1);
+    // Turned after the swap and not before it: else the compiler pairs s1 and s2 in a wide register, and takes them apart again at once.
+    let x2 = swapmovesingle(t.s2, 0x55550000, 1);
+    let x3 = swapmovesingle(t.s3, 0x00005555, 1);
+    let s2 = ror(x2, 16);
+    let s3 = ror(x3, 16);
     State {
         s0: t.s0 ^ c,
         s1: s1 ^ v,
@@ -217,22 +220,22 @@ fn starts(rkey: &[u32], i: usize) -> bool
 }
 
 // What a quintuple goes by, all read before its first round: for each of five rounds the words for V and U, and its constant.
-struct Part {
-    v0: u32,
-    u0: u32,
-    c0: u32,
-    v1: u32,
-    u1: u32,
-    c1: u32,
-    v2: u32,
-    u2: u32,
-    c2: u32,
-    v3: u32,
-    u3: u32,
-    c3: u32,
-    v4: u32,
-    u4: u32,
-    c4: u32,
+pub struct Part {
+    pub v0: u32,
+    pub u0: u32,
+    pub c0: u32,
+    pub v1: u32,
+    pub u1: u32,
+    pub c1: u32,
+    pub v2: u32,
+    pub u2: u32,
+    pub c2: u32,
+    pub v3: u32,
+    pub u3: u32,
+    pub c3: u32,
+    pub v4: u32,
+    pub u4: u32,
+    pub c4: u32,
 }
 
 fn read_part(rkey: &[u32], i: usize) -> Part
@@ -290,6 +293,105 @@ pub fn inv_quintuple_round(state: State, rkey: &[u32], i: usize) -> State
     let c = inv_round_2(exchanged(b), p.v2, p.u2, p.c2);
     let d = inv_round_1(exchanged(c), p.v1, p.u1, p.c1);
     inv_round_0(exchanged(d), p.v0, p.u0, p.c0)
+}
+
+// Whether eighty words and forty rounds have n quintuples from this offset on.
+fn reaches(rkey: &[u32], from: usize, n: usize) -> bool
+    ensures { λ r. ⌜ r ≡ reach (now (rkey .entry)) from n ⌝ }
+{
+    if rkey.len() != 80 {
+        return false;
+    }
+    if 40 < from {
+        return false;
+    }
+    if 8 < n {
+        return false;
+    }
+    from + 5 * n <= 40
+}
+
+// n quintuples from an offset on, over the words of all forty rounds. Where there are not so many the state stays. What goes through a block asks for its
+// quintuples here, one or eight: the compiler puts a quintuple's text into its caller only where it is called at one place.
+pub fn quintuples(s: State, rkey: &[u32], from: usize, n: usize) -> State
+    ensures { λ r. ⌜ r ≡ cond (reach (now (rkey .entry)) from n) (several (now (rkey .entry)) n from s) s ⌝ }
+{
+    if !reaches(rkey, from, n) {
+        return s;
+    }
+    let to = from + 5 * n;
+    let mut state = s;
+    let mut i = from;
+    while i < to {
+        let at = 2 * i;
+        state = quintuple_round(state, &rkey[at..], i);
+        i += 5;
+    }
+    state
+}
+
+pub fn inv_quintuples(s: State, rkey: &[u32], from: usize, n: usize) -> State
+    ensures { λ r. ⌜ r ≡ cond (reach (now (rkey .entry)) from n) (unseveral (now (rkey .entry)) n from s) s ⌝ }
+{
+    if !reaches(rkey, from, n) {
+        return s;
+    }
+    let mut state = s;
+    let mut i = from + 5 * n;
+    while from < i {
+        i -= 5;
+        let at = 2 * i;
+        state = inv_quintuple_round(state, &rkey[at..], i);
+    }
+    state
+}
+
+// What the quintuple at i goes by, for callers that take several states through it; nothing where none starts.
+pub fn part_at(rkey: &[u32], i: usize) -> Part
+    ensures { λ r. ⌜ r ≡ partIn (now (rkey .entry)) i ⌝ }
+{
+    if !starts(rkey, i) {
+        return Part {
+            v0: 0,
+            u0: 0,
+            c0: 0,
+            v1: 0,
+            u1: 0,
+            c1: 0,
+            v2: 0,
+            u2: 0,
+            c2: 0,
+            v3: 0,
+            u3: 0,
+            c3: 0,
+            v4: 0,
+            u4: 0,
+            c4: 0,
+        };
+    }
+    read_part(rkey, i)
+}
+
+// The five rounds once more, by a part that was read: the same text, for the one loop that calls it.
+pub fn by_part(s: State, p: Part) -> State
+    ensures { λ r. ⌜ r ≡ fiveOf p s ⌝ }
+{
+    let s1 = round_0(s, p.v0, p.u0, p.c0);
+    let s2 = round_1(exchanged(s1), p.v1, p.u1, p.c1);
+    let s3 = round_2(exchanged(s2), p.v2, p.u2, p.c2);
+    let s4 = round_3(exchanged(s3), p.v3, p.u3, p.c3);
+    let s5 = round_4(exchanged(s4), p.v4, p.u4, p.c4);
+    exchanged(s5)
+}
+
+pub fn inv_by_part(s: State, p: Part) -> State
+    ensures { λ r. ⌜ r ≡ unfiveOf p (stateOf (blockOf s)) ⌝ }
+{
+    let s4 = inv_round_4(exchanged(s), p.v4, p.u4, p.c4);
+    let s3 = inv_round_3(exchanged(s4), p.v3, p.u3, p.c3);
+    let s2 = inv_round_2(exchanged(s3), p.v2, p.u2, p.c2);
+    let s1 = inv_round_1(exchanged(s2), p.v1, p.u1, p.c1);
+    inv_round_0(exchanged(s1), p.v0, p.u0, p.c0)
 }
 
 // A word that was kept one round in, put in place again: the swaps of the crate's rearrange_rkey_0, the last first.

@@ -54,19 +54,30 @@ fn unpacked(order: u32, s: State, lent: &mut [u8]) -> u32 {
     0
 }
 
-fn by_words(call: u32, order: u32, s: State, words: &[u32], lent: &mut [u8]) -> u32 {
+fn by_words(call: u32, order: u32, s: State, words: &[u32], input: &[u8], lent: &mut [u8]) -> u32 {
     match call {
         8 => gift128::encrypt_by_words(order, words, lent),
         9 => gift128::decrypt_by_words(order, words, lent),
+        0xd => gift128::encrypt_blocks_by_words(order, words, input, lent),
+        0xe => gift128::decrypt_blocks_by_words(order, words, input, lent),
         _ => unpacked(order, s, lent),
     }
 }
 
 fn on_words(call: u32, line: &[u8], lent: &mut [u8]) -> u32 {
     let w = words(line);
+    let q = field(line, b"input");
     let words = w.words;
+    let input = q.bytes;
     let order = number(line, b"order");
-    by_words(call, order, args(line), front_words(&words, w.m), lent)
+    by_words(
+        call,
+        order,
+        args(line),
+        front_words(&words, w.m),
+        front(&input, q.n),
+        lent,
+    )
 }
 
 fn changed(call: u32, line: &[u8], lent: &mut [u8]) -> u32 {
@@ -106,7 +117,7 @@ fn expanded(line: &[u8]) -> bool {
 }
 
 fn row(call: u32, given: &[u32], out: &mut [u32]) -> u32 {
-    if call == 0xd {
+    if call == 0xf {
         return round_words::pairs(given, out);
     }
     round_words::words(given, out)
@@ -217,8 +228,9 @@ pub(crate) fn right(call: u32, line: &[u8]) -> bool {
         0x1..=0xa => lent(call, line),
         0xb => expanded(line),
         0xc => new(line),
-        0xd => rowed(call, words(line), line),
-        0xe => rowed(call, field(line, b"pairs"), line),
+        0xd..=0xe => lent(call, line),
+        0xf => rowed(call, words(line), line),
+        0x10 => rowed(call, field(line, b"pairs"), line),
         0x11..=0x1d => gives_one(line, word(call, args(line))),
         0x24 => gives(line, packed(line)),
         _ => gives(line, state(call, line)),

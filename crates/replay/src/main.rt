@@ -75,7 +75,8 @@ fn call_of(line: &[u8]) -> u32 {
     let e = find(line, 0, line.len(), b' ');
     number(
         b"encrypt_by_key=1 decrypt_by_key=2 one_round=3 encrypt_blocks=4 decrypt_blocks=5 encrypt_block=6 decrypt_block=7 \
-          encrypt_by_words=8 decrypt_by_words=9 unpacking=a precompute_rkeys=b new=c pairs=d words=e \
+          encrypt_by_words=8 decrypt_by_words=9 unpacking=a precompute_rkeys=b new=c encrypt_blocks_by_words=d decrypt_blocks_by_words=e \
+          pairs=f words=10 \
           ror=11 swapmovesingle=12 u32big=13 byte_ror_2=14 byte_ror_4=15 byte_ror_6=16 half_ror_4=17 half_ror_8=18 half_ror_12=19 \
           nibble_ror_1=1a nibble_ror_2=1b nibble_ror_3=1c round_constant=1d \
           sbox=21 inv_sbox=22 swapmove=23 packing=24 quintuple_round=25 inv_quintuple_round=26 first_round=27 \

@@ -114,6 +114,24 @@ extern "C" {
         output: *mut u8,
         output_len: usize,
     ) -> u32;
+    fn gift_encrypt_blocks_by_words(
+        order: u32,
+        words: *const u32,
+        words_len: usize,
+        input: *const u8,
+        input_len: usize,
+        output: *mut u8,
+        output_len: usize,
+    ) -> u32;
+    fn gift_decrypt_blocks_by_words(
+        order: u32,
+        words: *const u32,
+        words_len: usize,
+        input: *const u8,
+        input_len: usize,
+        output: *mut u8,
+        output_len: usize,
+    ) -> u32;
     fn gift_open_lane(
         lanes: *mut Lane,
         lanes_len: usize,
@@ -400,6 +418,66 @@ pub fn decrypt_blocks_in(
             order,
             key.as_ptr(),
             key.len(),
+            input.as_ptr(),
+            input.len(),
+            output.as_mut_ptr(),
+            output.len(),
+        )
+    })
+}
+
+/// Encrypts many blocks by 80 round words, in order 0: those of [`expand`], or any others. Refusals: 4, 2, 3.
+pub fn encrypt_blocks_by_words(
+    words: &[u32],
+    input: &[u8],
+    output: &mut [u8],
+) -> Result<(), Refusal> {
+    encrypt_blocks_by_words_in(NUMBER, words, input, output)
+}
+
+/// The same in an order. Refusals: 13, 4, 2, 3.
+pub fn encrypt_blocks_by_words_in(
+    order: u32,
+    words: &[u32],
+    input: &[u8],
+    output: &mut [u8],
+) -> Result<(), Refusal> {
+    linked();
+    answer(unsafe {
+        gift_encrypt_blocks_by_words(
+            order,
+            words.as_ptr(),
+            words.len(),
+            input.as_ptr(),
+            input.len(),
+            output.as_mut_ptr(),
+            output.len(),
+        )
+    })
+}
+
+/// Decrypts many blocks by 80 round words, in order 0: those of [`expand`], or any others. Refusals: 4, 2, 3.
+pub fn decrypt_blocks_by_words(
+    words: &[u32],
+    input: &[u8],
+    output: &mut [u8],
+) -> Result<(), Refusal> {
+    decrypt_blocks_by_words_in(NUMBER, words, input, output)
+}
+
+/// The same in an order. Refusals: 13, 4, 2, 3.
+pub fn decrypt_blocks_by_words_in(
+    order: u32,
+    words: &[u32],
+    input: &[u8],
+    output: &mut [u8],
+) -> Result<(), Refusal> {
+    linked();
+    answer(unsafe {
+        gift_decrypt_blocks_by_words(
+            order,
+            words.as_ptr(),
+            words.len(),
             input.as_ptr(),
             input.len(),
             output.as_mut_ptr(),

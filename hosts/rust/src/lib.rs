@@ -84,18 +84,43 @@ impl Gift128 {
 
     /// Encrypts each block by itself, in place.
     pub fn encrypt_blocks(&self, blocks: &mut [[u8; 16]]) {
-        blocks
-            .iter_mut()
-            .for_each(|block| self.encrypt_block(block))
+        self.encrypt_blocks_in(Order::Number, blocks)
     }
 
     /// Decrypts each block by itself, in place.
     pub fn decrypt_blocks(&self, blocks: &mut [[u8; 16]]) {
-        blocks
-            .iter_mut()
-            .for_each(|block| self.decrypt_block(block))
+        self.decrypt_blocks_in(Order::Number, blocks)
+    }
+
+    /// Encrypts each block by itself, in place, in an order.
+    pub fn encrypt_blocks_in(&self, order: Order, blocks: &mut [[u8; 16]]) {
+        self.in_pieces(order, blocks, calls::encrypt_blocks_by_words_in)
+    }
+
+    /// Decrypts each block by itself, in place, in an order.
+    pub fn decrypt_blocks_in(&self, order: Order, blocks: &mut [[u8; 16]]) {
+        self.in_pieces(order, blocks, calls::decrypt_blocks_by_words_in)
+    }
+
+    /// The call on many blocks goes from one buffer to another: up to 64 blocks at a time are copied out, and come back by it.
+    fn in_pieces(&self, order: Order, blocks: &mut [[u8; 16]], call: Many) {
+        let mut input = [[0; 16]; 64];
+        for piece in blocks.chunks_mut(64) {
+            let input = &mut input[..piece.len()];
+            input.copy_from_slice(piece);
+            call(
+                order as u32,
+                &self.k,
+                input.as_flattened(),
+                piece.as_flattened_mut(),
+            )
+            .expect(BY_TYPE);
+        }
     }
 }
+
+/// A call on many blocks by round words.
+type Many = fn(u32, &[u32], &[u8], &mut [u8]) -> Result<(), Refusal>;
 
 /// Does not tell the round words.
 impl fmt::Debug for Gift128 {

@@ -138,6 +138,14 @@ fn the_order_is_refused_first() {
             let must = good(order, own);
             assert_eq!(calls::encrypt_by_words_in(order, &words, &mut block), must);
             assert_eq!(calls::decrypt_by_words_in(order, &words, &mut block), must);
+            assert_eq!(
+                calls::encrypt_blocks_by_words_in(order, &words, &[1; 15], &mut block),
+                must
+            );
+            assert_eq!(
+                calls::decrypt_blocks_by_words_in(order, &words, &[1; 15], &mut block),
+                must
+            );
             assert_eq!(block, [9; 15]);
         }
         let mut lanes = [Lane::FRESH; 16];
@@ -168,6 +176,25 @@ fn records_of_no_order() {
             records[lane].count = u32::from(records[lane].turns()) | u32::from(order) << 16;
             let asked = Bench::from_records(records, bench.last_served()).turn(0);
             assert_eq!(asked.is_ok(), order <= last, "lane {lane}, order {order}");
+        }
+    }
+}
+
+#[test]
+fn many_blocks_are_each_by_itself_in_either_order() {
+    let cipher = Gift128::new(&KEY);
+    for order in [Order::Number, Order::Words] {
+        for n in 0..80 {
+            let plain: Vec<[u8; 16]> = (0..n).map(|i| [i as u8 * 3 + 1; 16]).collect();
+            let mut singly = plain.clone();
+            for block in &mut singly {
+                cipher.encrypt_block_in(order, block);
+            }
+            let mut blocks = plain.clone();
+            cipher.encrypt_blocks_in(order, &mut blocks);
+            assert_eq!(blocks, singly);
+            cipher.decrypt_blocks_in(order, &mut blocks);
+            assert_eq!(blocks, plain);
         }
     }
 }

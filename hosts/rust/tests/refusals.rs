@@ -108,6 +108,28 @@ fn lengths_of_many_blocks() {
     }
 }
 
+#[test]
+fn lengths_of_many_blocks_by_words() {
+    for words in [0, 1, 79, 80, 81, 160].map(|n| vec![7; n]) {
+        for input in LENGTHS.map(|n| vec![8; n]) {
+            for output in LENGTHS.map(|n| vec![9; n]) {
+                let must = match (words.len(), input.len() % 16, output.len() == input.len()) {
+                    (80, 0, true) => Ok(()),
+                    (80, 0, false) => Err(BadOutputLength),
+                    (80, ..) => Err(BadBlockLength),
+                    _ => Err(BadWordCount),
+                };
+                hold(&output, must, |o| {
+                    calls::encrypt_blocks_by_words(&words, &input, o)
+                });
+                hold(&output, must, |o| {
+                    calls::decrypt_blocks_by_words(&words, &input, o)
+                });
+            }
+        }
+    }
+}
+
 fn guest(number: u16) -> Owner {
     Owner::new(number).unwrap()
 }

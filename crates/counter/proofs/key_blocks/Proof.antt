@@ -3,47 +3,65 @@ use mathlib.Core.Path.{_≡_, refl, sym, ap, _∙_}
 use mathlib.Core.List.{List}
 use Prim.Native.Nat.{ℕ, _+_, _-_, _/_, _%_, _≤_}
 use native.Mathlib.Omega.{arith}
-use lib.ListN.{length, take, drop, length-take, length-drop}
+use lib.ListN.{length, take, drop}
 use lib.Seq.{take-all}
+use borrow.Author.Needs.{needs}
 use borrow.Rule.Slice.PartMut.{same-len-mid}
 use denote.Ref.{now}
 use Rattle.gift128.specs.Calls.{encryptedBy}
 use Rattle.counter.specs.Standard.{keyBlocks}
-use Rattle.counter.proofs.Blocks.{blocks-none, one-more}
+use Rattle.counter.proofs.Blocks.{blocks-none}
+use Rattle.counter.proofs.Chunks.{first-of, some-of, in-front, encrypts-many, several-more}
 use Rattle.counter.proofs.key_blocks.Statement.{statement}
 use Rattle.counter.proofs.key_blocks.Tie as tie
 
 abbrev Inv-loop : tie.InvT-loop
-Inv-loop words nonce counter output₀ a₀ output a =
-    (a % 16 ≡ 0) × (a ≤ length output₀) × (length output ≡ length output₀) × (take a output ≡ keyBlocks (encryptedBy words) nonce counter (a / 16))
+Inv-loop words nonce counter output₀ blocks₀ a₀ output blocks a =
+    (a % 16 ≡ 0) × (a ≤ length output₀) × (length output₀ % 16 ≡ 0) × (length output ≡ length output₀) × (length blocks ≡ 512) × (take a output ≡ keyBlocks (encryptedBy words) nonce counter (a / 16))
 
 abbrev μ-loop : tie.MeasureT-loop
-μ-loop words nonce counter output₀ a₀ output a = length output₀ - a
+μ-loop words nonce counter output₀ blocks₀ a₀ output blocks a = length output₀ - a
 
 loop-holds : tie.Need-loop-holds Inv-loop μ-loop
-loop-holds c = (refl, omega arith, refl, sym (blocks-none _ _ _))
+loop-holds c = (refl, omega arith, c .before .before .before .pre .1 .1 .1, refl, search needs, sym (blocks-none _ _ _))
 
-sixteen : (a : ℕ) (l : List ℕ) → a + 16 ≤ length l → length (take (a + 16 - a) (drop a l)) ≡ 16
-sixteen a l h = simp (length-take, length-drop) (omega arith)
+counter-blocks-requires : tie.Need-counter-blocks-requires Inv-loop μ-loop
+counter-blocks-requires c κs =
+    let q = c .before .before .before .loop in
+    let start = c .before .before .before .before .before .before .before in
+    let n : ℕ = c .before .at-once .result in
+    (start .pre .1 .0, (omega arith, rw (first-of (q .blocks) n (omega arith)) (c .before .at-once .ensures .1)))
 
-key-block-requires : tie.Need-key-block-requires Inv-loop μ-loop
-key-block-requires c κs =
-    let l = c .before .before .loop in
-    let start = c .before .before .before .before .before .before in
-    (start .pre .0, (start .pre .1 .0, sixteen (l .a) (l .output) (omega arith)))
+part-encrypt-blocks-by-words-end : tie.Need-part-encrypt-blocks-by-words-end Inv-loop μ-loop
+part-encrypt-blocks-by-words-end c =
+    let counts = c .before .before .counter-blocks in
+    let n : ℕ = c .before .before .before .before .at-once .result in
+    let q = c .before .before .before .before .before .before .loop in
+    omega (arith, same-len-mid 0 (n - 0) (q .blocks) (counts .last .1 .1 .0) (counts .kept .1 .1 .0) ∙ q .inv .4)
 
 loop-again : tie.Need-loop-again Inv-loop μ-loop
 loop-again c =
-    let call = c .before .before .key-block in
-    let l = c .before .before .before .before .before .loop in
-    let start = c .before .before .before .before .before .before .before .before .before in
+    let call = c .before .before .encrypt-blocks-by-words in
+    let counts = c .before .before .before .before .before .before .before .counter-blocks in
+    let once = c .before .before .before .before .before .before .before .before .before .at-once in
+    let q = c .before .before .before .before .before .before .before .before .before .before .before .loop in
+    let start = c .before .before .before .before .before .before .before .before .before .before .before .before .before .before .before in
     let a = start .args in
-    let room : l .a + 16 ≤ length (l .output) = omega arith in
-    let len : length (call .last .1 .1 .1 .0) ≡ 16 = call .kept .1 .1 .1 .0 ∙ sixteen (l .a) (l .output) room in (
+    let n : ℕ = once .result in
+    let here : ℕ = q .a in
+    let first : length (take (n - 0) (q .blocks)) ≡ n = first-of (q .blocks) n (omega arith) in
+    let part : length (take (here + n - here) (drop here (q .output))) ≡ n = some-of (q .output) here n (omega arith) in
+    let long : length (counts .last .1 .1 .0) ≡ n = counts .kept .1 .1 .0 ∙ first in
+    let front : take (n - 0) _ ≡ counts .last .1 .1 .0 = in-front (q .blocks) (counts .last .1 .1 .0) n long in (
       omega arith,
       omega arith,
-      same-len-mid (l .a) (l .a + 16 - l .a) (l .output) (call .last .1 .1 .1 .0) (call .kept .1 .1 .1 .0) ∙ l .inv .2,
-      one-more (encryptedBy (now (a .words))) (now (a .nonce)) (l .output) (call .last .1 .1 .1 .0) _ (a .counter) (l .a) (l .inv .0) (omega arith) len (l .inv .3) (call .ensures),
+      q .inv .2,
+      same-len-mid here (here + n - here) (q .output) (call .last .1 .1 .1 .0) (call .kept .1 .1 .1 .0) ∙ q .inv .3,
+      same-len-mid 0 (n - 0) (q .blocks) (counts .last .1 .1 .0) (counts .kept .1 .1 .0) ∙ q .inv .4,
+      several-more (encryptedBy (now (a .words))) (now (a .nonce)) (q .output) (take (n - 0) _) (call .last .1 .1 .1 .0) _ (a .counter) here n (start .pre .1 .0) (q .inv .0) (once .ensures .1) (omega arith)
+          (call .kept .1 .1 .1 .0 ∙ part) (q .inv .5)
+          (front ∙ counts .ensures ∙ ap (λ (k : ℕ). keyBlocks (λ (t : List ℕ). t) (now (a .nonce)) (a .counter + here / 16) (k / 16)) first)
+          (encrypts-many (now (a .words)) (take (n - 0) _) (take (here + n - here) (drop here (q .output))) (start .pre .0) (ap (λ (k : ℕ). k % 16) (ap length front ∙ long) ∙ once .ensures .1) (part ∙ sym (ap length front ∙ long)) (call .ensures)),
     )
 
 returns : tie.Need-returns Inv-loop μ-loop
@@ -51,22 +69,10 @@ returns c =
     let l = c .before .loop in
     let start = c .before .before .before .before .before in
     let all : l .a ≡ length (now (start .args .output)) = omega arith in
-    sym (take-all (l .a) (l .output) (omega arith)) ∙ l .inv .3 ∙ ap (λ (n : ℕ). keyBlocks (encryptedBy (now (start .args .words))) (now (start .args .nonce)) (start .args .counter) (n / 16)) all
+    sym (take-all (l .a) (l .output) (omega arith)) ∙ l .inv .5 ∙ ap (λ (n : ℕ). keyBlocks (encryptedBy (now (start .args .words))) (now (start .args .nonce)) (start .args .counter) (n / 16)) all
 
 pub key-blocks-spec : {M : Type 1} → statement M
 key-blocks-spec =
     tie.close
-    (tie.spec
-    Inv-loop
-    μ-loop
-    loop-holds
-    (λ c. omega arith)
-    (λ c. omega arith)
-    (λ c. omega arith)
-    (λ c. omega arith)
-    (λ c. omega arith)
-    key-block-requires
-    (λ c. omega arith)
-    loop-again
-    (λ c. omega arith)
-    returns)
+    (tie.spec Inv-loop μ-loop loop-holds (λ c. omega arith) (λ c κs. (omega arith, omega arith)) (λ c. omega arith) (λ c. omega arith) (λ c. omega arith) (λ c. omega arith) (λ c. omega arith) counter-blocks-requires
+    (λ c. omega arith) (λ c. omega arith) part-encrypt-blocks-by-words-end (λ c. omega arith) (λ c. omega arith) (λ c. omega arith) (λ c κs. tt) (λ c. omega arith) loop-again (λ c. c .before .loop .inv .3) returns)

@@ -22,13 +22,13 @@ returns c =
     let c6 = c5 .before in
     let c7 = c6 .before in
     let t : State = c6 .sbox .result in
-    is-subround 2 (λ i. rorIn 32 16 (exchange 0x55550000 1 i)) (exchange 0x55555555 1) (λ i. rorIn 32 16 (exchange 0x00005555 1 i)) tt tt tt (c7 .args .s) t
-    (c3 .swapmovesingle .result) (c2 .swapmovesingle2 .result) (c1 .swapmovesingle3 .result) (c7 .args .v) (c7 .args .u) (c7 .args .c) (c6 .sbox .ensures)
-    (one-after (exchange 0x55550000 1) (rorIn 32 16) tt (t .s3) (c5 .ror .result) _ (c5 .ror .ensures)
-    (swapped 0x55550000 1 tt (c5 .ror .result) _ (c1 .swapmovesingle3 .ensures)))
-    (swapped 0x55555555 1 tt (t .s1) _ (c3 .swapmovesingle .ensures))
-    (one-after (exchange 0x00005555 1) (rorIn 32 16) tt (t .s2) (c4 .ror2 .result) _ (c4 .ror2 .ensures)
-    (swapped 0x00005555 1 tt (c4 .ror2 .result) _ (c2 .swapmovesingle2 .ensures)))
+    is-subround 2 (λ i. exchange 0x00005555 1 (rorIn 32 16 i)) (exchange 0x55555555 1) (λ i. exchange 0x55550000 1 (rorIn 32 16 i)) tt tt tt (c7 .args .s) t
+    (c5 .swapmovesingle .result) (c2 .ror .result) (c1 .ror2 .result) (c7 .args .v) (c7 .args .u) (c7 .args .c) (c6 .sbox .ensures)
+    (one-after (rorIn 32 16) (exchange 0x00005555 1) tt (t .s3) (c3 .swapmovesingle3 .result) _ (swapped 0x00005555 1 tt (t .s3) _ (c3 .swapmovesingle3 .ensures))
+    (c1 .ror2 .ensures))
+    (swapped 0x55555555 1 tt (t .s1) _ (c5 .swapmovesingle .ensures))
+    (one-after (rorIn 32 16) (exchange 0x55550000 1) tt (t .s2) (c4 .swapmovesingle2 .result) _ (swapped 0x55550000 1 tt (t .s2) _ (c4 .swapmovesingle2 .ensures))
+    (c2 .ror .ensures))
 
 pub round-2-spec : {M : Type 1} → statement M
 round-2-spec =
