@@ -11,6 +11,31 @@ need_kit() {
     tools=$kit/on/$(uname -m)/toolchain
 }
 
+# crates_of NAME: how many crates of crates.txt a check of NAME proves, NAME itself among them.
+crates_of() {
+    awk -v want="$1" '
+        /^[a-z]/ { name = $1; sub(/:.*/, "", name); line = $0; sub(/^[^:]*:/, "", line); uses[name] = line; names[name] = 1 }
+        END { left[want] = 1; n = 0
+              do { more = 0; for (c in left) if (!(c in seen) && (c in names)) { seen[c] = 1; n++; more = 1; k = split(uses[c], u, " "); for (i = 1; i <= k; i++) left[u[i]] = 1 } } while (more)
+              print n }' crates.txt
+}
+
+# progress NAME TOTAL: passes on standard input to standard output and tells on standard error, a plain line each, which crate of how many was proved and which edit was
+# refused. (A loop of the shell: an awk may hold its input back until it has a lot of it.)
+progress() {
+    progress_done=0
+    while IFS= read -r progress_line; do
+        printf '%s\n' "$progress_line"
+        case $progress_line in
+        'rt: '*' proved ('*)
+            progress_done=$((progress_done + 1))
+            echo "$1: $progress_done of $2: ${progress_line#rt: }" >&2
+            ;;
+        'rt: must-fail '*) echo "$1: ${progress_line#rt: must-fail }" >&2 ;;
+        esac
+    done
+}
+
 # As rt runs a program: under the kit's loader and C library, and on another processor than x86-64 under the kit's emulator.
 run() { # PROGRAM
     emulator=$tools/bin/qemu-x86_64

@@ -1,0 +1,93 @@
+/* Whether a branch or an address of the library depends on a secret: under valgrind's memcheck every key and block byte is marked as having no value before it
+ * is lent, so that memcheck tells of each jump and each address that is made of one. tools/secrets builds and runs it; no part of the gate. With PLANTED
+ * defined it does what it looks for, once each, to show that it is told; with PLAIN it calls the plain engine, whose table is looked up by nibbles of the block. */
+#include <stdio.h>
+#include <string.h>
+#include <valgrind/memcheck.h>
+#include "../../include/gift_host.h"
+
+enum { LONG = 5 * GIFT_BLOCK_SIZE };
+
+static void secret(void *bytes, size_t n)
+{
+    VALGRIND_MAKE_MEM_UNDEFINED(bytes, n);
+}
+
+static void known(void *bytes, size_t n)
+{
+    VALGRIND_MAKE_MEM_DEFINED(bytes, n);
+}
+
+static int wrong; /* a call that was to be done and was refused */
+
+static void done(const char *call, uint32_t code)
+{
+    if (code != GIFT_DONE) {
+        printf("%s gave %u\n", call, code);
+        wrong = 1;
+    }
+}
+
+#ifdef PLANTED
+static volatile uint8_t table[256];
+
+static void planted(const uint8_t *key)
+{
+    volatile uint8_t sink;
+    sink = table[key[0]]; /* an address */
+    if (key[1] == 7)      /* a branch */
+        sink = 1;
+    (void)sink;
+}
+#endif
+
+int main(void)
+{
+    uint8_t key[GIFT_KEY_SIZE] = {1, 2, 3}, block[GIFT_BLOCK_SIZE] = {4, 5, 6}, input[LONG] = {7, 8}, output[LONG], tag[GIFT_TAG_SIZE];
+    uint32_t words[GIFT_WORDS];
+    secret(key, sizeof key);
+    secret(block, sizeof block);
+    secret(input, sizeof input);
+
+    done("gift_encrypt_by_key", gift_encrypt_by_key(key, sizeof key, block, sizeof block));
+    done("gift_decrypt_by_key", gift_decrypt_by_key(key, sizeof key, block, sizeof block));
+    done("gift_expand", gift_expand(key, sizeof key, words, GIFT_WORDS));
+    done("gift_encrypt_by_words", gift_encrypt_by_words(words, GIFT_WORDS, block, sizeof block));
+    done("gift_decrypt_by_words", gift_decrypt_by_words(words, GIFT_WORDS, block, sizeof block));
+    done("gift_encrypt_blocks", gift_encrypt_blocks(key, sizeof key, input, sizeof input, output, sizeof output));
+    done("gift_decrypt_blocks", gift_decrypt_blocks(key, sizeof key, input, sizeof input, output, sizeof output));
+
+    static gift_lane lanes[GIFT_LANES];
+    uint32_t last = GIFT_FRESH_LAST;
+    for (uint32_t lane = 0; lane < 2; lane++)
+        done("gift_open_lane", gift_open_lane(lanes, GIFT_LANES, last, lane, 1, lane, key, sizeof key, block, sizeof block));
+    for (int i = 0; i < 16; i++) {
+        gift_turns turns = gift_turn(lanes, GIFT_LANES, last, 1);
+        done("gift_turn", turns.code);
+        last = turns.last;
+    }
+    done("gift_take", gift_take(lanes, GIFT_LANES, last, 0, 1, block, sizeof block));
+    done("gift_close", gift_close(lanes, GIFT_LANES, last, 1, 1));
+
+    done("gift_mac", gift_mac(key, sizeof key, input, sizeof input - 3, tag, sizeof tag));
+    gift_mac_checked checked = gift_mac_check(key, sizeof key, input, sizeof input - 3, tag, sizeof tag);
+    done("gift_mac_check", checked.code);
+    known(&checked.yes, sizeof checked.yes); /* the answer is told to everyone */
+    gift_mac_told told = gift_mac_start(key, sizeof key);
+    done("gift_mac_start", told.code);
+    told = gift_mac_piece(told.state, input, 21);
+    done("gift_mac_piece", told.code);
+    done("gift_mac_tag", gift_mac_tag(told.state, tag, sizeof tag));
+
+#ifdef PLANTED
+    planted(key);
+#endif
+#ifdef PLAIN
+    done("gift_plain_encrypt_by_key", gift_plain_encrypt_by_key(key, sizeof key, block, sizeof block));
+    done("gift_plain_decrypt_by_key", gift_plain_decrypt_by_key(key, sizeof key, block, sizeof block));
+#endif
+    if (checked.yes != 1)
+        wrong = 1;
+    puts(wrong ? "a call was refused" : "all calls were done");
+    return wrong;
+}
