@@ -6,7 +6,7 @@
 #include <valgrind/memcheck.h>
 #include "../../include/gift_host.h"
 
-enum { LONG = 5 * GIFT_BLOCK_SIZE };
+enum { LONG = 13 * GIFT_BLOCK_SIZE };
 
 static void secret(void *bytes, size_t n)
 {
@@ -41,26 +41,35 @@ static void planted(const uint8_t *key)
 }
 #endif
 
-int main(void)
+static uint8_t key[GIFT_KEY_SIZE] = {1, 2, 3}, block[GIFT_BLOCK_SIZE] = {4, 5, 6}, input[LONG] = {7, 8}, output[LONG], tag[GIFT_TAG_SIZE];
+static uint32_t words[GIFT_WORDS];
+
+static void blocks(uint32_t order)
 {
-    uint8_t key[GIFT_KEY_SIZE] = {1, 2, 3}, block[GIFT_BLOCK_SIZE] = {4, 5, 6}, input[LONG] = {7, 8}, output[LONG], tag[GIFT_TAG_SIZE];
-    uint32_t words[GIFT_WORDS];
-    secret(key, sizeof key);
-    secret(block, sizeof block);
-    secret(input, sizeof input);
-
-    done("gift_encrypt_by_key", gift_encrypt_by_key(key, sizeof key, block, sizeof block));
-    done("gift_decrypt_by_key", gift_decrypt_by_key(key, sizeof key, block, sizeof block));
+    done("gift_encrypt_by_key", gift_encrypt_by_key(order, key, sizeof key, block, sizeof block));
+    done("gift_decrypt_by_key", gift_decrypt_by_key(order, key, sizeof key, block, sizeof block));
     done("gift_expand", gift_expand(key, sizeof key, words, GIFT_WORDS));
-    done("gift_encrypt_by_words", gift_encrypt_by_words(words, GIFT_WORDS, block, sizeof block));
-    done("gift_decrypt_by_words", gift_decrypt_by_words(words, GIFT_WORDS, block, sizeof block));
-    done("gift_encrypt_blocks", gift_encrypt_blocks(key, sizeof key, input, sizeof input, output, sizeof output));
-    done("gift_decrypt_blocks", gift_decrypt_blocks(key, sizeof key, input, sizeof input, output, sizeof output));
+    done("gift_encrypt_by_words", gift_encrypt_by_words(order, words, GIFT_WORDS, block, sizeof block));
+    done("gift_decrypt_by_words", gift_decrypt_by_words(order, words, GIFT_WORDS, block, sizeof block));
+    done("gift_encrypt_blocks", gift_encrypt_blocks(order, key, sizeof key, input, sizeof input, output, sizeof output));
+    done("gift_decrypt_blocks", gift_decrypt_blocks(order, key, sizeof key, input, sizeof input, output, sizeof output));
+}
 
+static void small_blocks(void)
+{
+    done("gift64_encrypt_by_key", gift64_encrypt_by_key(key, sizeof key, block, GIFT64_BLOCK_SIZE));
+    done("gift64_decrypt_by_key", gift64_decrypt_by_key(key, sizeof key, block, GIFT64_BLOCK_SIZE));
+    done("gift64_encrypt_blocks", gift64_encrypt_blocks(key, sizeof key, input, sizeof input, output, sizeof output));
+    done("gift64_decrypt_blocks", gift64_decrypt_blocks(key, sizeof key, input, sizeof input, output, sizeof output));
+}
+
+/* One lane encrypts in order 0, the other decrypts in order 1. */
+static void bench(void)
+{
     static gift_lane lanes[GIFT_LANES];
     uint32_t last = GIFT_FRESH_LAST;
     for (uint32_t lane = 0; lane < 2; lane++)
-        done("gift_open_lane", gift_open_lane(lanes, GIFT_LANES, last, lane, 1, lane, key, sizeof key, block, sizeof block));
+        done("gift_open_lane", gift_open_lane(lanes, GIFT_LANES, last, lane, 1, lane, lane, key, sizeof key, block, sizeof block));
     for (int i = 0; i < 16; i++) {
         gift_turns turns = gift_turn(lanes, GIFT_LANES, last, 1);
         done("gift_turn", turns.code);
@@ -68,17 +77,52 @@ int main(void)
     }
     done("gift_take", gift_take(lanes, GIFT_LANES, last, 0, 1, block, sizeof block));
     done("gift_close", gift_close(lanes, GIFT_LANES, last, 1, 1));
+}
 
+static void macs(void)
+{
     done("gift_mac", gift_mac(key, sizeof key, input, sizeof input - 3, tag, sizeof tag));
     gift_mac_checked checked = gift_mac_check(key, sizeof key, input, sizeof input - 3, tag, sizeof tag);
     done("gift_mac_check", checked.code);
     known(&checked.yes, sizeof checked.yes); /* the answer is told to everyone */
+    if (checked.yes != 1)
+        wrong = 1;
     gift_mac_told told = gift_mac_start(key, sizeof key);
     done("gift_mac_start", told.code);
     told = gift_mac_piece(told.state, input, 21);
     done("gift_mac_piece", told.code);
     done("gift_mac_tag", gift_mac_tag(told.state, tag, sizeof tag));
+}
 
+static void streams(void)
+{
+    gift_stream_started started = gift_stream_start(key, sizeof key, (const uint8_t *)"twelve bytes", GIFT_NONCE_SIZE, 0);
+    done("gift_stream_start", started.code);
+    done("gift_stream_piece", gift_stream_piece(&started.stream, input, 21, output, 21));
+    done("gift_stream_piece", gift_stream_piece(&started.stream, input, sizeof input, output, sizeof output));
+}
+
+/* The settings themselves are no secret here, the key is: a reader's answer shows the layout, and whether the tag was right (so readers are left out). */
+static void bundle(void)
+{
+    static const uint32_t rows[] = {1, 0, 1, 1, 20, 2, 0, 5};
+    uint8_t out[100];
+    gift_written written = gift_bundle_write_2(key, sizeof key, rows, 8, (const uint8_t *)"\1hello", 6, out, sizeof out);
+    done("gift_bundle_write_2", written.code);
+}
+
+int main(void)
+{
+    secret(key, sizeof key);
+    secret(block, sizeof block);
+    secret(input, sizeof input);
+    for (uint32_t order = GIFT_ORDER_NUMBER; order <= GIFT_ORDER_WORDS; order++)
+        blocks(order);
+    small_blocks();
+    bench();
+    macs();
+    streams();
+    bundle();
 #ifdef PLANTED
     planted(key);
 #endif
@@ -86,8 +130,6 @@ int main(void)
     done("gift_plain_encrypt_by_key", gift_plain_encrypt_by_key(key, sizeof key, block, sizeof block));
     done("gift_plain_decrypt_by_key", gift_plain_decrypt_by_key(key, sizeof key, block, sizeof block));
 #endif
-    if (checked.yes != 1)
-        wrong = 1;
     puts(wrong ? "a call was refused" : "all calls were done");
     return wrong;
 }
