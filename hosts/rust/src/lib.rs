@@ -11,6 +11,7 @@ mod counter;
 mod gift64;
 mod mac;
 mod refusal;
+mod wipe;
 
 use core::fmt;
 
@@ -20,6 +21,8 @@ pub use gift64::Gift64;
 pub use bundle::{Answer, Bundle, Edition, Iter, Row, Value, Writer};
 pub use mac::{Mac, MacState};
 pub use refusal::Refusal;
+
+use wipe::wipe;
 
 /// A cipher instance: the 80 round words of its key.
 #[derive(Clone)]
@@ -99,5 +102,12 @@ impl Gift128 {
 impl fmt::Debug for Gift128 {
     fn fmt(&self, f: &mut fmt::Formatter<'_>) -> fmt::Result {
         f.write_str("Gift128 { ... }")
+    }
+}
+
+/// The round words are wiped.
+impl Drop for Gift128 {
+    fn drop(&mut self) {
+        wipe(&mut self.k, [0; 80]);
     }
 }
