@@ -3,17 +3,21 @@
  * Every function is proved to answer as said here for all lengths, numbers, bytes and records. There is nothing to set up
  * or tear down, and nothing is kept between calls: all memory is the host's, and is lent for the length of one call. Calls
  * on different memory may run at the same time. The library takes no heap and some one KiB of stack (1.3 KiB for streams, 2.3 KiB for CMAC,
- * 18 KiB where the plain engine is called), and calls nothing but memcpy and memset.
-
- * on different memory may run at the same time. The library takes no heap and some one KiB of stack (2.3 KiB for CMAC,
  * 2.5 KiB for bundles, 18 KiB where the plain engine is called), and calls nothing but memcpy and memset.
+ *
+ * For kernels and hypervisors: it is code for baseline x86-64, uses SSE2 registers and the red zone, and has no unwind tables.
+ *
+ * Which call: a block by itself, and many blocks each by itself, is ECB and not authenticated. For messages use counter mode
+ * (gift_stream_piece) with a CMAC over what was encrypted (gift_mac, gift_mac_check), for settings a bundle. docs/SECURITY.md says more, and what
+ * is wiped and what is not. gift_refusals.h has the refusals as texts.
  *
  * A call answers 0 (GIFT_DONE) or the number of a refusal. Refusals are tried in the order given with each function, and
  * the first that applies is the one given. After a refusal everything lent is as it was before the call.
  *
  * What the host owes, since no callee can test it:
  *   - a pointer is not null and is aligned for its type, also with length 0, where it may point anywhere else;
- *   - as many elements as the length says lie there, each with a value, in less than 2^63 bytes;
+ *   - as many elements as the length says lie there, in less than 2^63 bytes, each with a value; what a call only writes (the buffer of a take, a
+ *     tag, the output of many blocks, of a piece and of a writer) needs none before it;
  *   - during the call nobody else writes to them, or even reads them where the pointer is not to const;
  *   - two buffers of one call do not overlap, unless both are const.
  * A wrong length, number or record is no such fault: it is refused.
@@ -33,6 +37,13 @@
 
 #ifdef __cplusplus
 extern "C" {
+#endif
+
+/* Marks a result that must be looked at: after a refusal nothing was done. */
+#if defined(__GNUC__) || defined(__clang__)
+#define GIFT_HOST_LOOK __attribute__((warn_unused_result))
+#else
+#define GIFT_HOST_LOOK
 #endif
 
 #define GIFT_HOST_EDITION 5 /* of this header */
@@ -171,7 +182,8 @@ uint32_t gift_open_lane(gift_lane *lanes, size_t lanes_len, uint32_t last, uint3
 /* Makes as many turns as are asked for, or fewer if no lane runs any more. Each serves the first running lane after the last
  * served one, in cyclic order, by five rounds, and its eighth finishes it. Asking for 0 is done. An opened lane that is not
  * closed by its owner is finished no later than the 128th turn made after its opening, whatever the other lanes do and
- * the other guests try. Refusals: 10, 8. */
+ * the other guests try. That holds if the host passes the `last` that this call gave back to every later call: a host that
+ * passes an old one serves the same lanes again and again, and starves the others. Refusals: 10, 8. */
 gift_turns gift_turn(gift_lane *lanes, size_t lanes_len, uint32_t last, uint32_t asked);
 
 /* Writes the 16 bytes of a finished lane, in the order that it was opened in, to its owner, and its record is all zero afterwards.

@@ -116,6 +116,10 @@ int main(void)
     secret(key, sizeof key);
     secret(block, sizeof block);
     secret(input, sizeof input);
+    /* what a call only writes needs no value before it */
+    secret(output, sizeof output);
+    secret(tag, sizeof tag);
+    secret(words, sizeof words);
     for (uint32_t order = GIFT_ORDER_NUMBER; order <= GIFT_ORDER_WORDS; order++)
         blocks(order);
     small_blocks();
