@@ -2,18 +2,22 @@
  *
  * Every function is proved to answer as said here for all lengths, numbers, bytes and records. There is nothing to set up
  * or tear down, and nothing is kept between calls: all memory is the host's, and is lent for the length of one call. Calls
- * on different memory may run at the same time. The library takes no heap and some one KiB of stack (1.3 KiB for streams, 2.3 KiB for CMAC,
- * 18 KiB where the plain engine is called), and calls nothing but memcpy and memset.
-
- * on different memory may run at the same time. The library takes no heap and some one KiB of stack (2.3 KiB for CMAC,
- * 2.5 KiB for bundles, 18 KiB where the plain engine is called), and calls nothing but memcpy and memset.
+ * on different memory may run at the same time. The library takes no heap and under one KiB of stack (1.7 KiB for many blocks, 2.4 KiB for CMAC,
+ * 2.7 KiB for streams and bundles, 19 KiB where the plain engine is called), and calls nothing but memcpy and memset.
+ *
+ * For kernels and hypervisors: it is code for baseline x86-64, uses SSE2 registers and the red zone, and has no unwind tables.
+ *
+ * Which call: a block by itself, and many blocks each by itself, is ECB and not authenticated. For messages use counter mode
+ * (gift_stream_piece) with a CMAC over what was encrypted (gift_mac, gift_mac_check), for settings a bundle. docs/SECURITY.md says more, and what
+ * is wiped and what is not. gift_refusals.h has the refusals as texts.
  *
  * A call answers 0 (GIFT_DONE) or the number of a refusal. Refusals are tried in the order given with each function, and
  * the first that applies is the one given. After a refusal everything lent is as it was before the call.
  *
  * What the host owes, since no callee can test it:
  *   - a pointer is not null and is aligned for its type, also with length 0, where it may point anywhere else;
- *   - as many elements as the length says lie there, each with a value, in less than 2^63 bytes;
+ *   - as many elements as the length says lie there, in less than 2^63 bytes, each with a value; what a call only writes (the buffer of a take, a
+ *     tag, the output of many blocks, of a piece and of a writer) needs none before it;
  *   - during the call nobody else writes to them, or even reads them where the pointer is not to const;
  *   - two buffers of one call do not overlap, unless both are const.
  * A wrong length, number or record is no such fault: it is refused.
@@ -33,6 +37,13 @@
 
 #ifdef __cplusplus
 extern "C" {
+#endif
+
+/* Marks a result that must be looked at: after a refusal nothing was done. */
+#if defined(__GNUC__) || defined(__clang__)
+#define GIFT_HOST_LOOK __attribute__((warn_unused_result))
+#else
+#define GIFT_HOST_LOOK
 #endif
 
 #define GIFT_HOST_EDITION 5 /* of this header */
@@ -75,44 +86,44 @@ uint32_t gift_host_edition(void);
 /* ---- one block, in place ---- */
 
 /* By a key, in an order. Refusals: 13, 1, 2. */
-uint32_t gift_encrypt_by_key(uint32_t order, const uint8_t *key, size_t key_len, uint8_t *block, size_t block_len);
-uint32_t gift_decrypt_by_key(uint32_t order, const uint8_t *key, size_t key_len, uint8_t *block, size_t block_len);
+GIFT_HOST_LOOK uint32_t gift_encrypt_by_key(uint32_t order, const uint8_t *key, size_t key_len, uint8_t *block, size_t block_len);
+GIFT_HOST_LOOK uint32_t gift_decrypt_by_key(uint32_t order, const uint8_t *key, size_t key_len, uint8_t *block, size_t block_len);
 
 /* The same by the plain engine, which does document 01's steps one by one on 32 nibbles: for an auditor to read, and for a host
  * that holds one engine to the other. It knows order 0 alone; there the two are proved to give the same number and bytes, whatever is lent. It takes some 28
  * times as long as gift_encrypt_by_key, and 35 times as long as gift_decrypt_by_key (one block, x86-64, the kit's clang 22 at
  * -O3, by speed/bench). Refusals: 1, 2. */
-uint32_t gift_plain_encrypt_by_key(const uint8_t *key, size_t key_len, uint8_t *block, size_t block_len);
-uint32_t gift_plain_decrypt_by_key(const uint8_t *key, size_t key_len, uint8_t *block, size_t block_len);
+GIFT_HOST_LOOK uint32_t gift_plain_encrypt_by_key(const uint8_t *key, size_t key_len, uint8_t *block, size_t block_len);
+GIFT_HOST_LOOK uint32_t gift_plain_decrypt_by_key(const uint8_t *key, size_t key_len, uint8_t *block, size_t block_len);
 
 /* By 80 round words: those of gift_expand, which saves expanding the key for every block, or any others. Refusals: 13, 4, 2. */
-uint32_t gift_encrypt_by_words(uint32_t order, const uint32_t *words, size_t words_len, uint8_t *block, size_t block_len);
-uint32_t gift_decrypt_by_words(uint32_t order, const uint32_t *words, size_t words_len, uint8_t *block, size_t block_len);
+GIFT_HOST_LOOK uint32_t gift_encrypt_by_words(uint32_t order, const uint32_t *words, size_t words_len, uint8_t *block, size_t block_len);
+GIFT_HOST_LOOK uint32_t gift_decrypt_by_words(uint32_t order, const uint32_t *words, size_t words_len, uint8_t *block, size_t block_len);
 
 /* Fills words with the 80 round words of a key. Refusals: 1, 4. */
-uint32_t gift_expand(const uint8_t *key, size_t key_len, uint32_t *words, size_t words_len);
+GIFT_HOST_LOOK uint32_t gift_expand(const uint8_t *key, size_t key_len, uint32_t *words, size_t words_len);
 
 /* Looks at round words in the GIFT paper's letters, and makes words of such letters: V of round 1, U of round 1, V of round 2, .. U of round 40, eighty
  * numbers. gift_pairs fills pairs with what 80 words stand for, gift_words fills words with those that stand for 80 such numbers: each undoes the other,
  * for any numbers at all, so every 80 words stand for exactly one list of pairs. The calls by words and a lane that holds them do the paper's rounds with
  * these pairs. Of the words of a key the pairs are the key's. Whoever makes its own words can hold them so to the paper.
  * Refusals: 4 if what is given (words; for gift_words pairs) is not 80 numbers, 3 if what is to be filled is not as long. */
-uint32_t gift_pairs(const uint32_t *words, size_t words_len, uint32_t *pairs, size_t pairs_len);
-uint32_t gift_words(const uint32_t *pairs, size_t pairs_len, uint32_t *words, size_t words_len);
+GIFT_HOST_LOOK uint32_t gift_pairs(const uint32_t *words, size_t words_len, uint32_t *pairs, size_t pairs_len);
+GIFT_HOST_LOOK uint32_t gift_words(const uint32_t *pairs, size_t pairs_len, uint32_t *words, size_t words_len);
 
 /* ---- many blocks, from one buffer to another ---- */
 
 /* Block n of the output from block n of the input, each by itself. Length 0 is done and writes nothing. Refusals: 13, 1, 2, 3. */
-uint32_t gift_encrypt_blocks(uint32_t order, const uint8_t *key, size_t key_len, const uint8_t *input, size_t input_len,
+GIFT_HOST_LOOK uint32_t gift_encrypt_blocks(uint32_t order, const uint8_t *key, size_t key_len, const uint8_t *input, size_t input_len,
                              uint8_t *output, size_t output_len);
-uint32_t gift_decrypt_blocks(uint32_t order, const uint8_t *key, size_t key_len, const uint8_t *input, size_t input_len,
+GIFT_HOST_LOOK uint32_t gift_decrypt_blocks(uint32_t order, const uint8_t *key, size_t key_len, const uint8_t *input, size_t input_len,
                              uint8_t *output, size_t output_len);
 
 /* The same by 80 round words, those of gift_expand or any others: for a host that keeps them. From 128 bytes on eight blocks are done at once, here and
  * in the calls by a key. Refusals: 13, 4, 2, 3. */
-uint32_t gift_encrypt_blocks_by_words(uint32_t order, const uint32_t *words, size_t words_len, const uint8_t *input, size_t input_len,
+GIFT_HOST_LOOK uint32_t gift_encrypt_blocks_by_words(uint32_t order, const uint32_t *words, size_t words_len, const uint8_t *input, size_t input_len,
                                       uint8_t *output, size_t output_len);
-uint32_t gift_decrypt_blocks_by_words(uint32_t order, const uint32_t *words, size_t words_len, const uint8_t *input, size_t input_len,
+GIFT_HOST_LOOK uint32_t gift_decrypt_blocks_by_words(uint32_t order, const uint32_t *words, size_t words_len, const uint8_t *input, size_t input_len,
                                       uint8_t *output, size_t output_len);
 
 /* ---- the bench: sixteen lanes that take turns ----
@@ -180,23 +191,24 @@ typedef struct gift_turns {
 /* Opens an idle lane on a key and a block, which is read in the order passed: it runs from here, with count 0, for the guest
  * whose number is passed as owner. Key and block are not needed after the call: the record holds the key's round words, the
  * block and its order. Refusals: 10, 5, 6, 11, 9, 13, 1, 2. */
-uint32_t gift_open_lane(gift_lane *lanes, size_t lanes_len, uint32_t last, uint32_t lane, uint16_t owner,
+GIFT_HOST_LOOK uint32_t gift_open_lane(gift_lane *lanes, size_t lanes_len, uint32_t last, uint32_t lane, uint16_t owner,
                         uint32_t direction, uint32_t order, const uint8_t *key, size_t key_len, const uint8_t *block, size_t block_len);
 
 /* Makes as many turns as are asked for, or fewer if no lane runs any more. Each serves the first running lane after the last
  * served one, in cyclic order, by five rounds, and its eighth finishes it. Asking for 0 is done. An opened lane that is not
  * closed by its owner is finished no later than the 128th turn made after its opening, whatever the other lanes do and
- * the other guests try. Refusals: 10, 8. */
-gift_turns gift_turn(gift_lane *lanes, size_t lanes_len, uint32_t last, uint32_t asked);
+ * the other guests try. That holds if the host passes the `last` that this call gave back to every later call: a host that
+ * passes an old one serves the same lanes again and again, and starves the others. Refusals: 10, 8. */
+GIFT_HOST_LOOK gift_turns gift_turn(gift_lane *lanes, size_t lanes_len, uint32_t last, uint32_t asked);
 
 /* Writes the 16 bytes of a finished lane, in the order that it was opened in, to its owner, and its record is all zero afterwards.
  * Refusals: 10, 5, 11, 7, 2. */
-uint32_t gift_take(gift_lane *lanes, size_t lanes_len, uint32_t last, uint32_t lane, uint16_t owner, uint8_t *out,
+GIFT_HOST_LOOK uint32_t gift_take(gift_lane *lanes, size_t lanes_len, uint32_t last, uint32_t lane, uint16_t owner, uint8_t *out,
                    size_t out_len);
 
 /* Makes the owner's lane idle, its record all zero, however far it has come; closing an idle lane changes nothing, whoever
  * does it. Refusals: 10, 5, 11. */
-uint32_t gift_close(gift_lane *lanes, size_t lanes_len, uint32_t last, uint32_t lane, uint16_t owner);
+GIFT_HOST_LOOK uint32_t gift_close(gift_lane *lanes, size_t lanes_len, uint32_t last, uint32_t lane, uint16_t owner);
 
 /* ---- CMAC (NIST SP 800-38B) over GIFT-128: a tag of 16 bytes ---- */
 
@@ -223,21 +235,21 @@ typedef struct gift_mac_checked {
 } gift_mac_checked;
 
 /* Writes the tag of a whole message, of any length. Refusals: 1, 2. */
-uint32_t gift_mac(const uint8_t *key, size_t key_len, const uint8_t *message, size_t message_len, uint8_t *tag, size_t tag_len);
+GIFT_HOST_LOOK uint32_t gift_mac(const uint8_t *key, size_t key_len, const uint8_t *message, size_t message_len, uint8_t *tag, size_t tag_len);
 
 /* Whether a tag is the message's. It looks at all 16 bytes whatever they are. Refusals: 1, 2. */
-gift_mac_checked gift_mac_check(const uint8_t *key, size_t key_len, const uint8_t *message, size_t message_len, const uint8_t *tag,
+GIFT_HOST_LOOK gift_mac_checked gift_mac_check(const uint8_t *key, size_t key_len, const uint8_t *message, size_t message_len, const uint8_t *tag,
                                 size_t tag_len);
 
 /* A message in pieces, cut anywhere: start, as many pieces as there are, empty ones too, and the tag of the state, which is the whole message's.
  * A start by a refused key gives a state that is all zero. Refusal: 1. */
-gift_mac_told gift_mac_start(const uint8_t *key, size_t key_len);
+GIFT_HOST_LOOK gift_mac_told gift_mac_start(const uint8_t *key, size_t key_len);
 
 /* `state = gift_mac_piece(state, piece, len).state`; a refused piece gives the state back as it was. Refusal: 10. */
-gift_mac_told gift_mac_piece(gift_mac_state state, const uint8_t *piece, size_t piece_len);
+GIFT_HOST_LOOK gift_mac_told gift_mac_piece(gift_mac_state state, const uint8_t *piece, size_t piece_len);
 
 /* Writes the tag of what was fed so far. It ends nothing: the state may be fed on. Refusals: 10, 2. */
-uint32_t gift_mac_tag(gift_mac_state state, uint8_t *tag, size_t tag_len);
+GIFT_HOST_LOOK uint32_t gift_mac_tag(gift_mac_state state, uint8_t *tag, size_t tag_len);
 
 /* ---- counter mode of NIST SP 800-38A, fed in pieces ----
  *
@@ -269,29 +281,29 @@ typedef struct gift_stream_started {
 } gift_stream_started;
 
 /* A stream at its first counter. Refused, it gives one that is all zero and spent. Refusals: 1, 2 (not 12 bytes). */
-gift_stream_started gift_stream_start(const uint8_t *key, size_t key_len, const uint8_t *nonce, size_t nonce_len, uint32_t counter);
+GIFT_HOST_LOOK gift_stream_started gift_stream_start(const uint8_t *key, size_t key_len, const uint8_t *nonce, size_t nonce_len, uint32_t counter);
 
 /* A piece of any length, 0 too, from one buffer to another of the same length, and the stream moves on. However a message is cut, the same bytes are
  * written, and the stream is the same in the end. 12 exactly if the piece needs more new blocks than counters are left: the bytes unused are served
  * even if none is, and an empty piece is never refused with 12. Refusals: 10, 3, 12. */
-uint32_t gift_stream_piece(gift_stream *stream, const uint8_t *input, size_t input_len, uint8_t *output, size_t output_len);
+GIFT_HOST_LOOK uint32_t gift_stream_piece(gift_stream *stream, const uint8_t *input, size_t input_len, uint8_t *output, size_t output_len);
 
 /* ---- GIFT-64: blocks of 8 bytes, keys of 16; numbers and orders as above ---- */
 
 #define GIFT64_BLOCK_SIZE 8 /* bytes of a block */
 
 /* One block by a key, in place. Refusals: 1, 2. */
-uint32_t gift64_encrypt_by_key(const uint8_t *key, size_t key_len, uint8_t *block, size_t block_len);
-uint32_t gift64_decrypt_by_key(const uint8_t *key, size_t key_len, uint8_t *block, size_t block_len);
+GIFT_HOST_LOOK uint32_t gift64_encrypt_by_key(const uint8_t *key, size_t key_len, uint8_t *block, size_t block_len);
+GIFT_HOST_LOOK uint32_t gift64_decrypt_by_key(const uint8_t *key, size_t key_len, uint8_t *block, size_t block_len);
 
 /* The same by the plain engine, on 16 nibbles. The two are proved to give the same number and bytes, whatever is lent. Refusals: 1, 2. */
-uint32_t gift64_plain_encrypt_by_key(const uint8_t *key, size_t key_len, uint8_t *block, size_t block_len);
-uint32_t gift64_plain_decrypt_by_key(const uint8_t *key, size_t key_len, uint8_t *block, size_t block_len);
+GIFT_HOST_LOOK uint32_t gift64_plain_encrypt_by_key(const uint8_t *key, size_t key_len, uint8_t *block, size_t block_len);
+GIFT_HOST_LOOK uint32_t gift64_plain_decrypt_by_key(const uint8_t *key, size_t key_len, uint8_t *block, size_t block_len);
 
 /* Many blocks by a key, from one buffer to another; the key is expanded once. Length 0 is done and writes nothing. Refusals: 1, 2, 3. */
-uint32_t gift64_encrypt_blocks(const uint8_t *key, size_t key_len, const uint8_t *input, size_t input_len,
+GIFT_HOST_LOOK uint32_t gift64_encrypt_blocks(const uint8_t *key, size_t key_len, const uint8_t *input, size_t input_len,
                                uint8_t *output, size_t output_len);
-uint32_t gift64_decrypt_blocks(const uint8_t *key, size_t key_len, const uint8_t *input, size_t input_len,
+GIFT_HOST_LOOK uint32_t gift64_decrypt_blocks(const uint8_t *key, size_t key_len, const uint8_t *input, size_t input_len,
                                uint8_t *output, size_t output_len);
 
 /* ---- the settings bundle ----
@@ -339,8 +351,8 @@ typedef struct gift_asked {
 } gift_asked;
 
 /* One id of a bundle, by a reader of edition 1 or 2. Tag and layout are tested whole in every call. Refusals: 1, 20, 21, 22, 23. */
-gift_asked gift_bundle_ask_1(const uint8_t *key, size_t key_len, const uint8_t *bundle, size_t bundle_len, uint32_t id);
-gift_asked gift_bundle_ask_2(const uint8_t *key, size_t key_len, const uint8_t *bundle, size_t bundle_len, uint32_t id);
+GIFT_HOST_LOOK gift_asked gift_bundle_ask_1(const uint8_t *key, size_t key_len, const uint8_t *bundle, size_t bundle_len, uint32_t id);
+GIFT_HOST_LOOK gift_asked gift_bundle_ask_2(const uint8_t *key, size_t key_len, const uint8_t *bundle, size_t bundle_len, uint32_t id);
 
 /* A bundle that was looked through: the number given, by which edition's reader, its settings, and its bytes. On a refusal the last two are 0. */
 typedef struct gift_bundle {
@@ -351,16 +363,16 @@ typedef struct gift_bundle {
 } gift_bundle;
 
 /* Looks a bundle through once, tag and layout. Refusals: 1, 20, 21, 22, 23. */
-gift_bundle gift_bundle_open_1(const uint8_t *key, size_t key_len, const uint8_t *bundle, size_t bundle_len);
-gift_bundle gift_bundle_open_2(const uint8_t *key, size_t key_len, const uint8_t *bundle, size_t bundle_len);
+GIFT_HOST_LOOK gift_bundle gift_bundle_open_1(const uint8_t *key, size_t key_len, const uint8_t *bundle, size_t bundle_len);
+GIFT_HOST_LOOK gift_bundle gift_bundle_open_2(const uint8_t *key, size_t key_len, const uint8_t *bundle, size_t bundle_len);
 
 /* One id of a bundle that was looked through, by what that gave and the same bytes: what gift_bundle_ask tells, for a pass over the table. If the bundle
  * was refused, or has another length, the state is GIFT_REFUSED whatever is asked: a host that forgot to look at the code gets no answer. That the bytes
  * are still those that were looked through is the host's affair. */
-gift_told gift_bundle_look(gift_bundle seen, const uint8_t *bundle, size_t bundle_len, uint32_t id);
+GIFT_HOST_LOOK gift_told gift_bundle_look(gift_bundle seen, const uint8_t *bundle, size_t bundle_len, uint32_t id);
 
 /* The setting at place i of the table, ids rising, from 0 on; past the last one the state is GIFT_ABSENT. */
-gift_told gift_bundle_entry(gift_bundle seen, const uint8_t *bundle, size_t bundle_len, uint32_t i);
+GIFT_HOST_LOOK gift_told gift_bundle_entry(gift_bundle seen, const uint8_t *bundle, size_t bundle_len, uint32_t i);
 
 /* A setting for the writer; its body is the next `length` bytes of the pool. */
 typedef struct gift_row {
@@ -378,9 +390,9 @@ typedef struct gift_written {
 
 /* Writes a list of settings as a bundle of edition 1 or 2. The rows are passed as numbers, `(const uint32_t *)rows, 4 * count`; a number of numbers that
  * is no multiple of 4, and a pool that is not as long as the rows say, are 24. Bytes of the output past the total stay. Refusals: 1, 24, 25. */
-gift_written gift_bundle_write_1(const uint8_t *key, size_t key_len, const uint32_t *rows, size_t rows_len, const uint8_t *pool, size_t pool_len,
+GIFT_HOST_LOOK gift_written gift_bundle_write_1(const uint8_t *key, size_t key_len, const uint32_t *rows, size_t rows_len, const uint8_t *pool, size_t pool_len,
                                  uint8_t *out, size_t out_len);
-gift_written gift_bundle_write_2(const uint8_t *key, size_t key_len, const uint32_t *rows, size_t rows_len, const uint8_t *pool, size_t pool_len,
+GIFT_HOST_LOOK gift_written gift_bundle_write_2(const uint8_t *key, size_t key_len, const uint32_t *rows, size_t rows_len, const uint8_t *pool, size_t pool_len,
                                  uint8_t *out, size_t out_len);
 
 /* A setting that two bundles answer differently, by the reader of edition 2: its id, and how it stands in the first and in the second. A value's body is `length` bytes
@@ -408,7 +420,7 @@ typedef struct gift_compared {
 /* Compares two bundles by one key: a row for each id whose two answers differ, ids rising, each once. Unknown is the same as unknown, a value is its kind and body, and
  * must-know is no part of it. The rows are passed as numbers, `(uint32_t *)rows, 9 * count`. Refusals: the first bundle's number, the second's, 25 if the rows lent are fewer
  * than `count`, which is told all the same; then no row is written. Rows past the count stay. */
-gift_compared gift_bundle_differ(const uint8_t *key, size_t key_len, const uint8_t *first, size_t first_len, const uint8_t *second, size_t second_len,
+GIFT_HOST_LOOK gift_compared gift_bundle_differ(const uint8_t *key, size_t key_len, const uint8_t *first, size_t first_len, const uint8_t *second, size_t second_len,
                                  uint32_t *rows, size_t rows_len);
 
 /* The layout above, held to the compiler's where it can say so. */

@@ -139,7 +139,7 @@ class Cases:
         self.heading("many blocks by eighty words")
         for n in range(count):
             order, words, plains = n % 2, self.words(), [self.some(16) for _ in range(n // 2 % 20)]
-            masks = masks_by(words)
+            masks = masks_of(row_of(words))
             secrets = [block(done(number(plain, order), masks), order) for plain in plains]
             before = self.some(16 * len(plains))
             self.write("encrypt_blocks_by_words", order=order, words=words, input=b"".join(plains), lent=before, number=0, left=b"".join(secrets))

@@ -39,7 +39,7 @@ static int measured(uint32_t count, uint32_t most)
         uint64_t a = now(), b, c, d, e, f;
         gift_written w = gift_bundle_write_2(key, sizeof key, (const uint32_t *)rows, 4 * count, pool, size, bundle, sizeof bundle);
         b = now();
-        gift_mac(key, sizeof key, bundle, w.total, tag, sizeof tag);
+        uint32_t tagged = gift_mac(key, sizeof key, bundle, w.total, tag, sizeof tag);
         c = now();
         gift_bundle seen = gift_bundle_open_2(key, sizeof key, bundle, w.total);
         d = now();
@@ -47,7 +47,7 @@ static int measured(uint32_t count, uint32_t most)
         e = now();
         gift_told told = gift_bundle_look(seen, bundle, w.total, 2 * count - 2);
         f = now();
-        if (w.code != 0 || seen.code != 0 || asked.told.state != GIFT_VALUE || told.state != GIFT_VALUE)
+        if (w.code != 0 || tagged != 0 || seen.code != 0 || asked.told.state != GIFT_VALUE || told.state != GIFT_VALUE)
             return 0;
         total = w.total;
         least(&write, a, b);

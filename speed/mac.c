@@ -14,16 +14,17 @@
 static uint8_t message[MOST], key[GIFT_KEY_SIZE];
 
 /* the chained block calls: the cipher's own time, block after block */
-static void chained(size_t len, uint8_t *block)
+static uint32_t chained(size_t len, uint8_t *block)
 {
     uint32_t words[GIFT_WORDS];
-    gift_expand(key, sizeof key, words, GIFT_WORDS);
+    uint32_t code = gift_expand(key, sizeof key, words, GIFT_WORDS);
     memset(block, 0, GIFT_BLOCK_SIZE);
     for (size_t at = 0; at < len; at += GIFT_BLOCK_SIZE) {
         for (unsigned i = 0; i < GIFT_BLOCK_SIZE; i++)
             block[i] ^= message[at + i];
-        gift_encrypt_by_words(GIFT_ORDER_NUMBER, words, GIFT_WORDS, block, GIFT_BLOCK_SIZE);
+        code |= gift_encrypt_by_words(GIFT_ORDER_NUMBER, words, GIFT_WORDS, block, GIFT_BLOCK_SIZE);
     }
+    return code;
 }
 
 int main(void)

@@ -1,6 +1,7 @@
 # What the scripts share that prove, build or run something: where the Rattle kit's tools are, how its programs are run, and the library for hosts. Sourced.
 
-# need_kit NAME: ends the script NAME with status 2 if the kit is not there; otherwise says where its tools are.
+# need_kit NAME: ends the script NAME with status 2 if the kit is not there; otherwise says where its tools are, and tells if it is another kit than README.md names.
+# Run at the top of the repository.
 need_kit() {
     if ! command -v rt >/dev/null 2>&1; then
         echo "$1: the Rattle kit is not installed: there is no command 'rt' on the PATH." >&2
@@ -9,6 +10,35 @@ need_kit() {
     fi
     kit=${RATTLE_HOME:-$(cd "$(dirname "$(readlink -f "$(command -v rt)")")/.." && pwd -P)}
     tools=$kit/on/$(uname -m)/toolchain
+    kit_named=$(sed -n 's/^    \(rattle-kit-[^ ]* logic .*\)$/\1/p' README.md | head -n 1) kit_there=$(rt version)
+    [ "$kit_there" = "$kit_named" ] ||
+        echo "$1: the kit is '$kit_there', and README.md names '$kit_named': what the one proves the other may refuse" >&2
+}
+
+# crates_of NAME: how many crates of crates.txt a check of NAME proves, NAME itself among them.
+crates_of() {
+    awk -v want="$1" '
+        /^[a-z]/ { name = $1; sub(/:.*/, "", name); line = $0; sub(/^[^:]*:/, "", line); uses[name] = line; names[name] = 1 }
+        END { left[want] = 1; n = 0
+              do { more = 0; for (c in left) if (!(c in seen) && (c in names)) { seen[c] = 1; n++; more = 1; k = split(uses[c], u, " "); for (i = 1; i <= k; i++) left[u[i]] = 1 } } while (more)
+              print n }' crates.txt
+}
+
+# progress NAME TOTAL: passes on standard input to standard output and tells on standard error, a plain line each, which crate of how many was proved anew. (A loop of the shell: an awk may hold its input back until it has a lot of it.)
+progress() {
+    progress_done=0
+    while IFS= read -r progress_line; do
+        printf '%s\n' "$progress_line"
+        case $progress_line in
+        'rt: '*' proved ('*)
+            progress_done=$((progress_done + 1))
+            case $progress_line in
+            *' (unchanged since '*) ;;
+            *) echo "$1: $progress_done of $2: ${progress_line#rt: }" >&2 ;;
+            esac
+            ;;
+        esac
+    done
 }
 
 # As rt runs a program: under the kit's loader and C library, and on another processor than x86-64 under the kit's emulator.
@@ -18,13 +48,28 @@ run() { # PROGRAM
     ${emulator:+"$emulator"} "$tools/lib/ld-linux-x86-64.so.2" --library-path "$tools/lib" "$1"
 }
 
-# prove_library NAME: proves and builds target/staticlib/libgift_host.a, or ends the script NAME with status 1. Run at the top of the repository.
+# proving NAME LOG WORDS..: runs `rt WORDS..`, whose last word is a crate, with its progress on standard error and what it says in the file LOG; ends the script NAME
+# with status 1 if something is not proved. Run at the top of the repository.
+proving() {
+    proving_name=$1 proving_log=$2
+    shift 2
+    for proving_crate; do :; done
+    mkdir -p "$(dirname "$proving_log")"
+    echo "$proving_name: proving $proving_crate and what it uses, $(crates_of "$proving_crate") crates" >&2
+    {
+        rt "$@" 2>&1
+        echo $? >"$proving_log.status"
+    } | progress "$proving_name" "$(crates_of "$proving_crate")" >"$proving_log"
+    [ "$(cat "$proving_log.status")" != 0 ] || return 0
+    echo "$proving_name: $proving_crate is not proved; $proving_log has what was said:" >&2
+    tail -n 20 "$proving_log" >&2
+    exit 1
+}
+
+# prove_library NAME: proves and builds target/staticlib/libgift_host.a, or ends the script NAME with status 1.
 prove_library() {
     mkdir -p target/hosts
-    rt staticlib gift_host >target/hosts/staticlib.log 2>&1 && return 0
-    echo "$1: the library is not proved; target/hosts/staticlib.log has what was said:" >&2
-    tail -n 20 target/hosts/staticlib.log >&2
-    exit 1
+    proving "$1" target/hosts/staticlib.log staticlib gift_host
 }
 
 # measure NAME: builds speed/NAME.c over the library for hosts with the kit's own compiler, linker and C library, and runs it.

@@ -623,8 +623,7 @@ static unsigned known_tags(void)
         fed[i] = (uint8_t)i;
     for (unsigned n = 0; n < count; n++) {
         uint8_t tag[16];
-        gift_mac(fed, 16, fed, known[n].length, tag, 16);
-        if (memcmp(tag, known[n].tag, 16) != 0 && differs(MAC))
+        if ((gift_mac(fed, 16, fed, known[n].length, tag, 16) != GIFT_DONE || memcmp(tag, known[n].tag, 16) != 0) && differs(MAC))
             printf("the tag of %lu bytes is not the stored one\n", (unsigned long)known[n].length);
     }
     return count;

@@ -1,4 +1,5 @@
 // The line program: feeds the bytes of standard input to `lines`, and writes what comes. What it answers is proved there, for every input.
+use libc::STDERR_FILENO;
 use libc::STDIN_FILENO;
 use libc::STDOUT_FILENO;
 use lines::Reader;
@@ -78,12 +79,24 @@ fn read_all(reader: Reader) -> Reading {
     }
 }
 
-// Where reading or writing failed there is no closing line: it counts all lines, and here not all are known.
+// Whether the answer is whole. Where reading or writing failed there is no closing line: it counts all lines, and here not all are known.
+fn answer() -> bool {
+    if !show(lines::first_line()) {
+        return false;
+    }
+    let end = read_all(lines::fresh());
+    if end.failed {
+        return false;
+    }
+    show(lines::closing(end.reader))
+}
+
+// A program has no status of its own to give, so a failure is told on standard error, where `./gift lines` sees it.
 fn main() {
-    if show(lines::first_line()) {
-        let end = read_all(lines::fresh());
-        if !end.failed {
-            show(lines::closing(end.reader));
-        }
+    if !answer() {
+        io::write_all(
+            STDERR_FILENO,
+            b"gift-lines: reading or writing failed, so the answer is not whole\n",
+        );
     }
 }

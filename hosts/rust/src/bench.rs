@@ -4,7 +4,7 @@ use core::fmt;
 use core::mem::offset_of;
 use core::num::NonZeroU16;
 
-use crate::{calls, Refusal};
+use crate::{calls, wipe::wipe, Refusal};
 
 /// How many lanes a bench has.
 const LANES: usize = 16;
@@ -248,5 +248,14 @@ impl Bench {
     /// Makes its owner's lane idle, all zero, however far it has come; an idle lane may be closed by anyone. Refusals: 10, 5, 11.
     pub fn close(&mut self, lane: u32, owner: Owner) -> Result<(), Refusal> {
         calls::close(&mut self.lanes, self.last, lane, owner.number())
+    }
+}
+
+/// Every lane's record is wiped, as a close leaves it.
+impl Drop for Bench {
+    fn drop(&mut self) {
+        for lane in &mut self.lanes {
+            wipe(lane, Lane::FRESH);
+        }
     }
 }

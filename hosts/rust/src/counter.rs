@@ -3,7 +3,7 @@
 use core::fmt;
 use core::mem::offset_of;
 
-use crate::{calls, Refusal, BY_TYPE};
+use crate::{calls, wipe::wipe, Refusal, BY_TYPE};
 
 /// What is kept between pieces, as include/gift_host.h has it. Each position of a stream has one such state.
 #[derive(Clone, Copy, PartialEq, Eq)]
@@ -27,6 +27,18 @@ const _: () = assert!(size_of::<Stream>() == 360 && align_of::<Stream>() == 4);
 const _: () = assert!(offset_of!(Stream, words) == 0 && offset_of!(Stream, nonce) == 320);
 const _: () = assert!(offset_of!(Stream, counter) == 332 && offset_of!(Stream, block) == 336);
 const _: () = assert!(offset_of!(Stream, unused) == 352 && offset_of!(Stream, spent) == 356);
+
+impl Stream {
+    /// All zero.
+    const BLANK: Stream = Stream {
+        words: [0; 80],
+        nonce: [0; 12],
+        counter: 0,
+        block: [0; 16],
+        unused: 0,
+        spent: 0,
+    };
+}
 
 /// Tells neither round words nor key stream.
 impl fmt::Debug for Stream {
@@ -72,5 +84,12 @@ impl Counter {
 impl fmt::Debug for Counter {
     fn fmt(&self, f: &mut fmt::Formatter<'_>) -> fmt::Result {
         f.write_str("Counter { ... }")
+    }
+}
+
+/// The whole stream is wiped: round words, key stream and all.
+impl Drop for Counter {
+    fn drop(&mut self) {
+        wipe(&mut self.stream, Stream::BLANK);
     }
 }

@@ -2,7 +2,7 @@
 
 use core::fmt;
 
-use crate::{calls, Refusal, BY_TYPE};
+use crate::{calls, wipe::wipe, Refusal, BY_TYPE};
 
 /// A cipher instance: its key, which each call expands, and many blocks once for all of them.
 #[derive(Clone)]
@@ -74,5 +74,12 @@ impl Gift64 {
 impl fmt::Debug for Gift64 {
     fn fmt(&self, f: &mut fmt::Formatter<'_>) -> fmt::Result {
         f.write_str("Gift64 { ... }")
+    }
+}
+
+/// The key is wiped.
+impl Drop for Gift64 {
+    fn drop(&mut self) {
+        wipe(&mut self.key, [0; 16]);
     }
 }

@@ -11,6 +11,7 @@ mod counter;
 mod gift64;
 mod mac;
 mod refusal;
+mod wipe;
 mod words;
 
 use core::fmt;
@@ -22,6 +23,8 @@ pub use bundle::{Answer, Bundle, Differences, Edition, Iter, Row, Value, Writer}
 pub use mac::{Mac, MacState};
 pub use refusal::Refusal;
 pub use words::{Pair, RoundWords};
+
+use wipe::wipe;
 
 /// A cipher instance: the 80 round words of its key.
 #[derive(Clone)]
@@ -102,6 +105,16 @@ impl Gift128 {
         self.in_pieces(order, blocks, calls::decrypt_blocks_by_words_in)
     }
 
+    /// Encrypts each block by itself, block n of the output from block n of the input, in one call of the library. Refusal: 3.
+    pub fn encrypt_blocks_to(&self, input: &[[u8; 16]], output: &mut [[u8; 16]]) -> Result<(), Refusal> {
+        calls::encrypt_blocks_by_words(&self.k, input.as_flattened(), output.as_flattened_mut())
+    }
+
+    /// Decrypts each block by itself, block n of the output from block n of the input, in one call of the library. Refusal: 3.
+    pub fn decrypt_blocks_to(&self, input: &[[u8; 16]], output: &mut [[u8; 16]]) -> Result<(), Refusal> {
+        calls::decrypt_blocks_by_words(&self.k, input.as_flattened(), output.as_flattened_mut())
+    }
+
     /// The call on many blocks goes from one buffer to another: up to 64 blocks at a time are copied out, and come back by it.
     fn in_pieces(&self, order: Order, blocks: &mut [[u8; 16]], call: Many) {
         let mut input = [[0; 16]; 64];
@@ -126,5 +139,12 @@ type Many = fn(u32, &[u32], &[u8], &mut [u8]) -> Result<(), Refusal>;
 impl fmt::Debug for Gift128 {
     fn fmt(&self, f: &mut fmt::Formatter<'_>) -> fmt::Result {
         f.write_str("Gift128 { ... }")
+    }
+}
+
+/// The round words are wiped.
+impl Drop for Gift128 {
+    fn drop(&mut self) {
+        wipe(&mut self.k, [0; 80]);
     }
 }

@@ -3,7 +3,7 @@
 use core::fmt;
 use core::mem::offset_of;
 
-use crate::{calls, Refusal, BY_TYPE};
+use crate::{calls, wipe::wipe, Refusal, BY_TYPE};
 
 /// What is kept between pieces, as include/gift_host.h has it.
 #[derive(Clone, Copy, PartialEq, Eq)]
@@ -22,6 +22,16 @@ pub struct MacState {
 const _: () = assert!(size_of::<MacState>() == 356 && align_of::<MacState>() == 4);
 const _: () = assert!(offset_of!(MacState, words) == 0 && offset_of!(MacState, chain) == 320);
 const _: () = assert!(offset_of!(MacState, held) == 336 && offset_of!(MacState, count) == 352);
+
+impl MacState {
+    /// All zero.
+    const BLANK: MacState = MacState {
+        words: [0; 80],
+        chain: [0; 16],
+        held: [0; 16],
+        count: 0,
+    };
+}
 
 /// Does not tell the round words.
 impl fmt::Debug for MacState {
@@ -79,5 +89,12 @@ impl Mac {
 impl fmt::Debug for Mac {
     fn fmt(&self, f: &mut fmt::Formatter<'_>) -> fmt::Result {
         f.write_str("Mac { ... }")
+    }
+}
+
+/// The whole state is wiped.
+impl Drop for Mac {
+    fn drop(&mut self) {
+        wipe(&mut self.state, MacState::BLANK);
     }
 }

@@ -3,7 +3,7 @@
 use core::fmt;
 
 use crate::bench::Order;
-use crate::{calls, Gift128, Refusal, BY_TYPE};
+use crate::{calls, wipe::wipe, Gift128, Refusal, BY_TYPE};
 
 /// What one round takes, in the letters of the GIFT paper.
 #[derive(Clone, Copy, Debug, Default, PartialEq, Eq, Hash)]
@@ -81,5 +81,12 @@ impl RoundWords {
 impl fmt::Debug for RoundWords {
     fn fmt(&self, f: &mut fmt::Formatter<'_>) -> fmt::Result {
         f.write_str("RoundWords { ... }")
+    }
+}
+
+/// The words are wiped.
+impl Drop for RoundWords {
+    fn drop(&mut self) {
+        wipe(&mut self.words, [0; 80]);
     }
 }

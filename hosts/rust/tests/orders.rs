@@ -198,3 +198,25 @@ fn many_blocks_are_each_by_itself_in_either_order() {
         }
     }
 }
+
+/// From one buffer to another, in place and block by block: the same bytes; an output of another length is refused, and stays.
+#[test]
+fn many_blocks_to_another_buffer() {
+    let cipher = gift_host::Gift128::new(&[7; 16]);
+    for n in 0..40 {
+        let input: Vec<[u8; 16]> = (0..n).map(|i| [i as u8; 16]).collect();
+        let (mut there, mut in_place, mut singly) = (vec![[9; 16]; n], input.clone(), input.clone());
+        cipher.encrypt_blocks_to(&input, &mut there).unwrap();
+        cipher.encrypt_blocks(&mut in_place);
+        singly.iter_mut().for_each(|block| cipher.encrypt_block(block));
+        assert_eq!(there, in_place);
+        assert_eq!(there, singly);
+        let mut back = vec![[9; 16]; n];
+        cipher.decrypt_blocks_to(&there, &mut back).unwrap();
+        assert_eq!(back, input);
+        let mut longer = vec![[9; 16]; n + 1];
+        assert_eq!(cipher.encrypt_blocks_to(&input, &mut longer), Err(gift_host::Refusal::BadOutputLength));
+        assert_eq!(cipher.decrypt_blocks_to(&input, &mut longer), Err(gift_host::Refusal::BadOutputLength));
+        assert_eq!(longer, vec![[9; 16]; n + 1]);
+    }
+}
