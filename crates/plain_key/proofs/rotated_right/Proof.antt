@@ -1,8 +1,8 @@
--- `plain::steps::rotated_right`: the two parts of a word change places.
+-- `plain_key::rotated_right`: the two parts of a word change places.
 use borrow.Author.Needs.{needs}
-use Rattle.plain.proofs.Keys.{rotation}
-use Rattle.plain.proofs.steps.rotated_right.Statement.{statement}
-use Rattle.plain.proofs.steps.rotated_right.Tie as tie
+use Rattle.plain_key.proofs.Keys.{rotation}
+use Rattle.plain_key.proofs.rotated_right.Statement.{statement}
+use Rattle.plain_key.proofs.rotated_right.Tie as tie
 
 returns : tie.Need-returns
 returns c = rotation (c .args .r) (c .args .k) (c .pre .0) (c .pre .1) (c .fits .k .fits)

@@ -1,4 +1,4 @@
--- `plain::steps::update_key`: each word is the one that the update puts there.
+-- `plain_key::update_key`: each word is the one that the update puts there.
 use mathlib.Core.Path.{ap₂, _∙_}
 use mathlib.Core.List.{List, [], _∷_}
 use Prim.Native.Nat.{ℕ}
@@ -6,10 +6,10 @@ use lib.ListN.{getD}
 use mir.Syntax.{w16}
 use mir.Val.{Fits}
 use borrow.Author.Needs.{needs}
-use Rattle.plain.specs.Inner.{keyOf}
-use Rattle.plain.proofs.Keys.{update-is}
-use Rattle.plain.proofs.steps.update_key.Statement.{statement}
-use Rattle.plain.proofs.steps.update_key.Tie as tie
+use Rattle.plain_key.specs.Inner.{keyOf}
+use Rattle.plain_key.proofs.Keys.{update-is}
+use Rattle.plain_key.proofs.update_key.Statement.{statement}
+use Rattle.plain_key.proofs.update_key.Tie as tie
 
 returns : tie.Need-returns
 returns c =

@@ -1,11 +1,11 @@
--- `plain::key_code` tries 1, 2.
+-- `plain_key::key_code` tries 1, 2.
 use borrow.Author.Tests.{ne-eqb}
 use Rattle.published.specs.Calls.{blockCode, keyCode}
-use Rattle.plain.proofs.key_code.Statement.{statement}
-use Rattle.plain.proofs.key_code.Tie as tie
+use Rattle.plain_key.proofs.key_code.Statement.{statement}
+use Rattle.plain_key.proofs.key_code.Tie as tie
 
 returns : tie.Need-returns
-unfolding keyCode
+unfolding keyCode blockCode
 returns c = rw (ne-eqb _ 16 (c .if1 .taken))
 
 returns-2 : tie.Need-returns-2

@@ -1,8 +1,8 @@
--- `plain::key_code_64` tries 1, 2.
+-- `plain_key::key_code_64` tries 1, 2.
 use borrow.Author.Tests.{ne-eqb}
 use Rattle.published.specs.Calls64.{keyCode64}
-use Rattle.plain.proofs.key_code_64.Statement.{statement}
-use Rattle.plain.proofs.key_code_64.Tie as tie
+use Rattle.plain_key.proofs.key_code_64.Statement.{statement}
+use Rattle.plain_key.proofs.key_code_64.Tie as tie
 
 returns : tie.Need-returns
 unfolding keyCode64

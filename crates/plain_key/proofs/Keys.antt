@@ -17,7 +17,7 @@ use Rattle.bits.proofs.Bits.{bit-ext, bit-ofBits, bit-or, bit-out, bit-shl-cut,
 use Rattle.published.specs.Key.{_‖_, ror16, update}
 use Rattle.published.specs.Gift128.{pairOf}
 use Rattle.published.specs.Gift64.{pairOf64}
-use Rattle.plain.specs.Inner.{keyOf}
+use Rattle.plain_key.specs.Inner.{keyOf}
 
 in-words : (k0 k1 k2 k3 k4 k5 k6 k7 : ℕ) → keyOf (k0 ∷ k1 ∷ k2 ∷ k3 ∷ k4 ∷ k5 ∷ k6 ∷ k7 ∷ []) ≡ k7 ‖ k6 ‖ k5 ‖ k4 ‖ k3 ‖ k2 ‖ k1 ‖ k0
 unfolding number

@@ -1,9 +1,9 @@
--- `plain::rounds_of`: GIFT-64's of sixteen nibbles, else GIFT-128's.
+-- `plain_key::rounds_of`: GIFT-64's of sixteen nibbles, else GIFT-128's.
 use mathlib.Core.Path.{sym}
 use borrow.Author.Tests.{eq-eqb, ne-eqb}
 use Rattle.bits.proofs.Computed.{cond-true, cond-false}
-use Rattle.plain.proofs.rounds_of.Statement.{statement}
-use Rattle.plain.proofs.rounds_of.Tie as tie
+use Rattle.plain_key.proofs.rounds_of.Statement.{statement}
+use Rattle.plain_key.proofs.rounds_of.Tie as tie
 
 returns : tie.Need-returns
 returns c = sym (cond-true _ _ _ (eq-eqb _ 16 (c .if1 .taken)))

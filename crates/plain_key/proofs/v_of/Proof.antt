@@ -1,4 +1,4 @@
--- `plain::v_of`: two of the key state's words, and one in GIFT-64.
+-- `plain_key::v_of`: two of the key state's words, and one in GIFT-64.
 use mathlib.Core.Path.{sym, ap, _∙_}
 use mathlib.Core.Bool.{Bool, cond}
 use Prim.Native.Nat.{ℕ}
@@ -10,10 +10,10 @@ use borrow.Author.Needs.{needs}
 use borrow.Author.Tests.{eq-eqb, ne-eqb}
 use Rattle.published.specs.Gift128.{pairOf}
 use Rattle.published.specs.Gift64.{pairOf64}
-use Rattle.plain.specs.Inner.{keyOf}
-use Rattle.plain.proofs.Keys.{v-is, small-v-is}
-use Rattle.plain.proofs.v_of.Statement.{statement}
-use Rattle.plain.proofs.v_of.Tie as tie
+use Rattle.plain_key.specs.Inner.{keyOf}
+use Rattle.plain_key.proofs.Keys.{v-is, small-v-is}
+use Rattle.plain_key.proofs.v_of.Statement.{statement}
+use Rattle.plain_key.proofs.v_of.Tie as tie
 
 word : (c : tie.Start) (i : ℕ) → Fits w16 (getD (c .args .t1) i 0)
 word c i = search needs
