@@ -14,7 +14,7 @@ use Rattle.answers.proofs.Outcome.{if-done}
 use Rattle.bits.proofs.Truth.{both}
 use Rattle.published.specs.Calls.{blockCode, keyCode}
 use Rattle.published.specs.Gift128.{encrypted}
-use Rattle.cmac.specs.Standard.{cmac}
+use Rattle.cmac_parts.specs.Standard.{cmac}
 use Rattle.cmac.specs.Calls.{same, Checks}
 use Rattle.cmac.proofs.Pieces.{to-end}
 use Rattle.bundle_format.specs.Format.{firstBody, tagOf}

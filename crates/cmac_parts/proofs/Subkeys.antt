@@ -10,12 +10,14 @@ use lib.Bits.{bitXor, xor-zero-r}
 use lib.Dec.{eqb, lit<}
 use lib.ListN.{length, getD, set, replicate, length-set, length-replicate, getD-replicate, List·getD-append}
 use lib.Seq.{ext-getD, getD-set-same, getD-set-other, set-getD}
+use borrow.Author.Tests.{eq-eqb}
 use Rattle.bits.specs.Digit.{digit, bit}
+use Rattle.bits.proofs.Computed.{cond-true}
 use Rattle.published.specs.Bytes.{fromBytes, toBytes, Bytes}
 use Rattle.published.proofs.Reading.{fromBytes-lt, length-toBytes, to-from, bit-fromBytes}
-use Rattle.cmac.specs.Standard.{shifted, subkey, R128, firstBit, _⊕_}
-use Rattle.cmac.specs.Inner.{shiftedBytes}
-use Rattle.cmac.proofs.Strings.{length-⊕, getD-⊕}
+use Rattle.cmac_parts.specs.Standard.{shifted, subkey, R128, firstBit, _⊕_}
+use Rattle.cmac_parts.specs.Inner.{shiftedBytes, subkeyOf}
+use Rattle.cmac_parts.proofs.Xored.{length-⊕, getD-⊕}
 
 pub length-shiftedBytes : (bs : List ℕ) → length (shiftedBytes bs) ≡ length bs
 unfolding shiftedBytes
@@ -117,3 +119,7 @@ subkey-is x y len h e = go (getD x 0 0 / 128) small (first-bit x len h)
     go zero l b = ap (set y 15) (xor-zero-r (getD y 15 0)) ∙ set-getD y 15 0 ∙ e ∙ ap (λ (t : Bool). cond t (shifted x ⊕ R128) (shifted x)) (sym b)
     go (suc zero) l b = under-R y size ∙ ap (λ (z : List ℕ). z ⊕ R128) e ∙ ap (λ (t : Bool). cond t (shifted x ⊕ R128) (shifted x)) (sym b)
     go (suc (suc q)) l b = absurd (not-suc-le-zero (le-of-suc-le-suc (le-of-suc-le-suc l)))
+
+-- what doubling gives of a block
+pub doubled-is : (x y : List ℕ) → length x ≡ 16 → y ≡ subkeyOf x → y ≡ subkey x
+doubled-is x y h e = e ∙ cond-true (eqb (length x) 16) (subkey x) x (eq-eqb (length x) 16 h)

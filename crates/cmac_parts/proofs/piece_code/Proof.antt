@@ -1,8 +1,8 @@
--- `cmac::orders::piece_code` tries 10.
+-- `cmac_parts::piece_code` tries 10.
 use borrow.Author.Tests.{le-leb, lt-leb}
-use Rattle.cmac.specs.Calls.{pieceCode}
-use Rattle.cmac.proofs.orders.piece_code.Statement.{statement}
-use Rattle.cmac.proofs.orders.piece_code.Tie as tie
+use Rattle.cmac_parts.specs.Orders.{pieceCode}
+use Rattle.cmac_parts.proofs.piece_code.Statement.{statement}
+use Rattle.cmac_parts.proofs.piece_code.Tie as tie
 
 returns : tie.Need-returns
 unfolding pieceCode

@@ -1,9 +1,9 @@
--- `cmac::orders::tag_code` tries 10, as a piece does, and then 2.
+-- `cmac_parts::tag_code` tries 10, as a piece does, and then 2.
 use mathlib.Core.Path.{sym, _∙_}
 use borrow.Author.Needs.{needs}
-use Rattle.cmac.proofs.Pieces.{tag-refused, tag-later}
-use Rattle.cmac.proofs.orders.tag_code.Statement.{statement}
-use Rattle.cmac.proofs.orders.tag_code.Tie as tie
+use Rattle.cmac_parts.proofs.Passing.{tag-refused, tag-later}
+use Rattle.cmac_parts.proofs.tag_code.Statement.{statement}
+use Rattle.cmac_parts.proofs.tag_code.Tie as tie
 
 returns : tie.Need-returns
 returns c = tag-refused _ _ _ (c .before .piece-code .ensures) (c .if1 .taken)

@@ -1,8 +1,8 @@
--- `cmac::orders::length_code` tries 2.
+-- `cmac_parts::length_code` tries 2.
 use borrow.Author.Tests.{ne-eqb}
 use Rattle.published.specs.Calls.{blockCode}
-use Rattle.cmac.proofs.orders.length_code.Statement.{statement}
-use Rattle.cmac.proofs.orders.length_code.Tie as tie
+use Rattle.cmac_parts.proofs.length_code.Statement.{statement}
+use Rattle.cmac_parts.proofs.length_code.Tie as tie
 
 returns : tie.Need-returns
 unfolding blockCode

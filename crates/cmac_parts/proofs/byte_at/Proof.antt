@@ -1,10 +1,10 @@
--- `cmac::byte_at`: the byte, or past the end 0, which is what `getD` gives there.
+-- `cmac_parts::byte_at`: the byte, or past the end 0, which is what `getD` gives there.
 use mathlib.Core.Path.{sym}
 use borrow.Author.Needs.{needs}
 use lib.ListN.{List·getD-eq-default}
 use denote.Ref.{now}
-use Rattle.cmac.proofs.byte_at.Statement.{statement}
-use Rattle.cmac.proofs.byte_at.Tie as tie
+use Rattle.cmac_parts.proofs.byte_at.Statement.{statement}
+use Rattle.cmac_parts.proofs.byte_at.Tie as tie
 
 returns-2 : tie.Need-returns-2
 returns-2 c = sym (List·getD-eq-default (now (c .before .args .bytes)) 0 (c .if1 .left))

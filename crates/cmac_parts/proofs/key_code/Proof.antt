@@ -1,9 +1,9 @@
--- `cmac::orders::key_code` tries 1, 2.
+-- `cmac_parts::key_code` tries 1, 2.
 use borrow.Author.Needs.{needs}
 use borrow.Author.Tests.{ne-eqb}
 use Rattle.published.specs.Calls.{keyCode}
-use Rattle.cmac.proofs.orders.key_code.Statement.{statement}
-use Rattle.cmac.proofs.orders.key_code.Tie as tie
+use Rattle.cmac_parts.proofs.key_code.Statement.{statement}
+use Rattle.cmac_parts.proofs.key_code.Tie as tie
 
 returns : tie.Need-returns
 unfolding keyCode

@@ -1,4 +1,4 @@
--- `cmac::shift`: the bytes before place i are shifted; those from i on, the next among them, are not yet.
+-- `cmac_parts::shift`: the bytes before place i are shifted; those from i on, the next among them, are not yet.
 use mathlib.Core.Path.{_≡_, refl, sym, ap, ap₂, _∙_}
 use mathlib.Core.List.{List}
 use Prim.Native.Nat.{ℕ, _+_, _-_, _*_, _/_, _%_, _≤_, _<_}
@@ -8,10 +8,10 @@ use lib.ListN.{length, getD, length-set}
 use borrow.Author.Needs.{needs}
 use denote.Ref.{now}
 use Rattle.bits.proofs.Filling.{written, written-more, written-here, written-rest, written-all}
-use Rattle.cmac.specs.Inner.{shiftedBytes}
-use Rattle.cmac.proofs.Subkeys.{length-shiftedBytes, getD-shiftedBytes, shifted-is}
-use Rattle.cmac.proofs.shift.Statement.{statement}
-use Rattle.cmac.proofs.shift.Tie as tie
+use Rattle.cmac_parts.specs.Inner.{shiftedBytes}
+use Rattle.cmac_parts.proofs.Subkeys.{length-shiftedBytes, getD-shiftedBytes, shifted-is}
+use Rattle.cmac_parts.proofs.shift.Statement.{statement}
+use Rattle.cmac_parts.proofs.shift.Tie as tie
 
 abbrev Inv-loop : tie.InvT-loop
 Inv-loop block₀ i₀ block i = (i ≤ 16) × (length block ≡ 16) × (block ≡ written (shiftedBytes block₀) block₀ i)
