@@ -1,10 +1,10 @@
--- `lines::answer` asks whether the line is good.
+-- `line_answers::answer` asks whether the line is good.
 use mathlib.Core.Path.{sym, ap, _∙_}
 use Rattle.bits.proofs.Computed.{cond-true, cond-false}
-use Rattle.lines.specs.Line.{answerOf}
 use Rattle.text.specs.Written.{written}
-use Rattle.lines.proofs.answer.Statement.{statement}
-use Rattle.lines.proofs.answer.Tie as tie
+use Rattle.line_answers.specs.Line.{answerOf}
+use Rattle.line_answers.proofs.answer.Statement.{statement}
+use Rattle.line_answers.proofs.answer.Tie as tie
 
 respond-to-requires : tie.Need-respond-to-requires
 respond-to-requires c κs = sym (c .before .is-good .ensures) ∙ c .if1 .taken

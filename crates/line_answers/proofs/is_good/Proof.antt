@@ -1,13 +1,13 @@
--- `lines::is_good` tries the parts of a line in the order of the definition.
+-- `line_answers::is_good` tries the parts of a line in the order of the definition.
 use mathlib.Core.Path.{_≡_, sym, _∙_}
 use Prim.Native.Nat.{ℕ, _≤_}
 use native.Mathlib.Omega.{arith}
 use lib.Dec.{lit≤}
 use lib.ListN.{length}
 use borrow.Author.Tests.{eq-eqb, ne-eqb, not-true, not-false}
-use Rattle.lines.specs.Line.{isGood}
-use Rattle.lines.proofs.is_good.Statement.{statement}
-use Rattle.lines.proofs.is_good.Tie as tie
+use Rattle.line_answers.specs.Line.{isGood}
+use Rattle.line_answers.proofs.is_good.Statement.{statement}
+use Rattle.line_answers.proofs.is_good.Tie as tie
 
 -- past the first test there are 67 bytes
 long : (c : tie.Else1) → length (c .before .before .args .line .now) ≡ 67

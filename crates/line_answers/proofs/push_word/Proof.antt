@@ -1,4 +1,4 @@
--- `lines::push_word` pushes the four bytes of a word, the high one first.
+-- `line_answers::push_word` pushes the four bytes of a word, the high one first.
 use mathlib.Core.Path.{_≡_, sym, ap, _∙_}
 use mathlib.Core.List.{[], _∷_, _++_}
 use Prim.Native.Nat.{ℕ, _%_}
@@ -8,8 +8,8 @@ use Rattle.bits.specs.Digit.{digit}
 use Rattle.published.specs.Bytes.{toBytes}
 use Rattle.text.specs.Hex.{hexOf}
 use Rattle.text.specs.Written.{written}
-use Rattle.lines.proofs.push_word.Statement.{statement}
-use Rattle.lines.proofs.push_word.Tie as tie
+use Rattle.line_answers.proofs.push_word.Statement.{statement}
+use Rattle.line_answers.proofs.push_word.Tie as tie
 
 returns : tie.Need-returns
 unfolding digit toBytes

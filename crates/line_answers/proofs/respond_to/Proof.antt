@@ -1,15 +1,15 @@
--- `lines::respond_to` reads the key and the block of a good line.
+-- `line_answers::respond_to` reads the key and the block of a good line.
 use mathlib.Core.Path.{ap₂, _∙_}
 use mathlib.Core.List.{List}
 use Prim.Native.Nat.{ℕ}
 use lib.Dec.{lit≤}
 use lib.ListN.{getD}
 use borrow.Author.Needs.{needs}
-use Rattle.lines.specs.Line.{response}
 use Rattle.text.specs.Written.{written}
-use Rattle.lines.proofs.Good.{Good, good, reaches, length-part}
-use Rattle.lines.proofs.respond_to.Statement.{statement}
-use Rattle.lines.proofs.respond_to.Tie as tie
+use Rattle.line_answers.specs.Line.{response}
+use Rattle.line_answers.proofs.Good.{Good, good, reaches, length-part}
+use Rattle.line_answers.proofs.respond_to.Statement.{statement}
+use Rattle.line_answers.proofs.respond_to.Tie as tie
 
 line-good : (c : tie.Start) → Good (c .args .line .now)
 line-good c = good (c .args .line .now) (c .pre)

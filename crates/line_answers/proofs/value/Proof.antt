@@ -1,9 +1,9 @@
--- `lines::value` finds the run of digits in which a byte lies.
+-- `line_answers::value` finds the run of digits in which a byte lies.
 use borrow.Author.Needs.{needs}
 use borrow.Author.Tests.{lt-ltb, le-ltb, le-leb, lt-leb}
-use Rattle.lines.proofs.Numerals.{value-is}
-use Rattle.lines.proofs.value.Statement.{statement}
-use Rattle.lines.proofs.value.Tie as tie
+use Rattle.line_answers.proofs.Numerals.{value-is}
+use Rattle.line_answers.proofs.value.Statement.{statement}
+use Rattle.line_answers.proofs.value.Tie as tie
 
 returns : tie.Need-returns
 returns c = simp (lt-ltb _ _ (c .if1 .taken)) at (value-is (c .before .args .c) (c .before .fits .c .fits))

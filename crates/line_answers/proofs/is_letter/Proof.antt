@@ -1,8 +1,8 @@
--- `lines::is_letter` tries the six letters.
+-- `line_answers::is_letter` tries the six letters.
 use borrow.Author.Tests.{eq-eqb, ne-eqb}
-use Rattle.lines.specs.Line.{isLetter}
-use Rattle.lines.proofs.is_letter.Statement.{statement}
-use Rattle.lines.proofs.is_letter.Tie as tie
+use Rattle.line_answers.specs.Line.{isLetter}
+use Rattle.line_answers.proofs.is_letter.Statement.{statement}
+use Rattle.line_answers.proofs.is_letter.Tie as tie
 
 returns : tie.Need-returns
 unfolding isLetter

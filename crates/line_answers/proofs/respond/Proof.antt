@@ -1,4 +1,4 @@
--- `lines::respond` calls the cipher by the letter and writes what it left.
+-- `line_answers::respond` calls the cipher by the letter and writes what it left.
 use mathlib.Core.Path.{refl, sym, ap, _∙_}
 use mathlib.Core.List.{List, []}
 use Prim.Native.Nat.{ℕ}
@@ -7,11 +7,11 @@ use Rattle.primitives.specs.declared.State.{State}
 use Rattle.primitives.specs.Packed.{stateOf}
 use Rattle.packing.proofs.Inverse.{packed-block}
 use Rattle.text.specs.Hex.{hexOf}
-use Rattle.lines.specs.Line.{wordsText, packedText}
 use Rattle.text.specs.Written.{written}
-use Rattle.lines.proofs.Responses.{leaves, encrypts, decrypts, response-E, response-D, response-R, response-F, response-G, response-P}
-use Rattle.lines.proofs.respond.Statement.{statement}
-use Rattle.lines.proofs.respond.Tie as tie
+use Rattle.line_answers.specs.Line.{wordsText, packedText}
+use Rattle.line_answers.proofs.Responses.{leaves, encrypts, decrypts, response-E, response-D, response-R, response-F, response-G, response-P}
+use Rattle.line_answers.proofs.respond.Statement.{statement}
+use Rattle.line_answers.proofs.respond.Tie as tie
 
 returns : tie.Need-returns
 returns c =

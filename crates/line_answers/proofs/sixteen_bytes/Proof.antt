@@ -1,4 +1,4 @@
--- `lines::sixteen_bytes` holds, at each turn, the bytes of the pairs passed.
+-- `line_answers::sixteen_bytes` holds, at each turn, the bytes of the pairs passed.
 use mathlib.Core.Path.{_≡_, refl, sym, ap₂, _∙_}
 use mathlib.Core.List.{List, [], _∷_, _++_}
 use Prim.Native.Nat.{ℕ, _≤_, _-_}
@@ -7,9 +7,9 @@ use native.Mathlib.Omega.{arith}
 use lib.ListN.{length, take, length-set}
 use lib.Seq.{take-suc, take-suc-set, take-all}
 use Rattle.text.specs.Hex.{bytesOf}
-use Rattle.lines.proofs.Numerals.{hex-at, byte-at, length-bytesOf}
-use Rattle.lines.proofs.sixteen_bytes.Statement.{statement}
-use Rattle.lines.proofs.sixteen_bytes.Tie as tie
+use Rattle.line_answers.proofs.Numerals.{hex-at, byte-at, length-bytesOf}
+use Rattle.line_answers.proofs.sixteen_bytes.Statement.{statement}
+use Rattle.line_answers.proofs.sixteen_bytes.Tie as tie
 
 abbrev Inv-loop : tie.InvT-loop
 Inv-loop text out₀ i₀ out i = (i ≤ 16) × (length out ≡ 16) × (take i out ≡ take i (bytesOf text))

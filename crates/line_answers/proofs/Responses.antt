@@ -11,7 +11,7 @@ use Rattle.published.specs.Gift128.{encrypted, decrypted}
 use Rattle.published.specs.Calls.{blockCode, keyCode, CiphersByKey}
 use Rattle.gift128.specs.Calls.{orderCode, CiphersByKeyIn, afterOne}
 use Rattle.text.specs.Hex.{hexOf}
-use Rattle.lines.specs.Line.{packedText, response}
+use Rattle.line_answers.specs.Line.{packedText, response}
 
 pub leaves : (key block : List ℕ) {new left : List ℕ} {r : ℕ} → length key ≡ 16 → length block ≡ 16
     → Gives (keyCode (length key) (length block)) new block r left → left ≡ new

@@ -7,8 +7,8 @@ use native.Mathlib.Omega.{arith}
 use lib.ListN.{length, take, drop, getD, length-take, length-drop}
 use borrow.Author.Tests.{eqb-true}
 use Rattle.text.specs.Hex.{allHex}
-use Rattle.lines.specs.Line.{isLetter, isGood, keyText, blockText}
-use Rattle.lines.proofs.Numerals.{both}
+use Rattle.line_answers.specs.Line.{isLetter, isGood, keyText, blockText}
+use Rattle.line_answers.proofs.Numerals.{both}
 
 pub record Good (line : List ℕ) : Type 0 where
   pub long : length line ≡ 67

@@ -1,9 +1,9 @@
--- `lines::bad_line` pushes its words and the number.
+-- `line_answers::bad_line` pushes its words and the number.
 use mathlib.Core.List.{[]}
 use borrow.Author.Needs.{needs}
-use Rattle.lines.specs.Line.{badLine}
-use Rattle.lines.proofs.bad_line.Statement.{statement}
-use Rattle.lines.proofs.bad_line.Tie as tie
+use Rattle.line_answers.specs.Line.{badLine}
+use Rattle.line_answers.proofs.bad_line.Statement.{statement}
+use Rattle.line_answers.proofs.bad_line.Tie as tie
 
 returns : tie.Need-returns
 unfolding badLine

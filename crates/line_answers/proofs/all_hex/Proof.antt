@@ -1,13 +1,13 @@
--- `lines::all_hex` passes digits only, so what is left decides.
+-- `line_answers::all_hex` passes digits only, so what is left decides.
 use mathlib.Core.Path.{_≡_, refl, sym, ap, _∙_}
 use mathlib.Core.List.{List}
 use Prim.Native.Nat.{ℕ, _≤_, _-_}
 use native.Mathlib.Omega.{arith}
 use lib.ListN.{length, drop, drop-of-length-le}
 use Rattle.text.specs.Hex.{allHex}
-use Rattle.lines.proofs.Numerals.{more-hex, no-more-hex}
-use Rattle.lines.proofs.all_hex.Statement.{statement}
-use Rattle.lines.proofs.all_hex.Tie as tie
+use Rattle.line_answers.proofs.Numerals.{more-hex, no-more-hex}
+use Rattle.line_answers.proofs.all_hex.Statement.{statement}
+use Rattle.line_answers.proofs.all_hex.Tie as tie
 
 abbrev Inv-loop : tie.InvT-loop
 Inv-loop text i₀ i = (i ≤ length text) × (allHex text ≡ allHex (drop i text))

@@ -1,10 +1,10 @@
--- `lines::words_text` pushes word after word.
+-- `line_answers::words_text` pushes word after word.
 use mathlib.Core.Path.{ap, _∙_}
 use mathlib.Core.List.{[], append-assoc}
-use Rattle.lines.specs.Line.{wordsText}
 use Rattle.text.specs.Written.{written}
-use Rattle.lines.proofs.words_text.Statement.{statement}
-use Rattle.lines.proofs.words_text.Tie as tie
+use Rattle.line_answers.specs.Line.{wordsText}
+use Rattle.line_answers.proofs.words_text.Statement.{statement}
+use Rattle.line_answers.proofs.words_text.Tie as tie
 
 returns : tie.Need-returns
 unfolding wordsText
