@@ -7,7 +7,8 @@ use mathlib.Core.Logic.{_≢_}
 use Prim.Native.Nat.{ℕ}
 use lib.ListN.{length}
 use Rattle.answers.proofs.Outcome.{if-done, if-refused}
-use Rattle.lane.specs.Record.{admits, idleLane, opened, yielded}
+use Rattle.lane.specs.Record.{admits, idleLane}
+use Rattle.lane_turns.specs.Turns.{opened, yielded}
 use Rattle.bench.specs.declared.Bench.{Bench}
 use Rattle.bench.specs.declared.Answer.{Answer}
 use Rattle.bench.specs.Turning.{laneAt, turnedBy, servedBy}

@@ -9,8 +9,9 @@ use lib.ListN.{length, set}
 use borrow.Author.Tests.{lt-ltb, le-ltb}
 use Rattle.bits.proofs.Computed.{cond-true, cond-false}
 use Rattle.lane.specs.declared.Lane.{Lane}
-use Rattle.lane.specs.Record.{running, soundLane, served, lacks}
-use Rattle.lane.proofs.Records.{served-count, served-lacks, served-sound}
+use Rattle.lane.specs.Record.{running, soundLane}
+use Rattle.lane_turns.specs.Turns.{served, lacks}
+use Rattle.lane_turns.proofs.Serving.{served-count, served-lacks, served-sound}
 use Rattle.bench.specs.declared.Bench.{Bench}
 use Rattle.bench.specs.Turning.{laneCount, laneAt, runs, chosen, anyRuns, turned, turnedBy, servedBy, total}
 use Rattle.bench.proofs.Soundness.{Sound, sound-set}

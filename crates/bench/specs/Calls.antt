@@ -6,7 +6,8 @@ use lib.Dec.{eqb, ltb}
 use lib.ListN.{length, set, replicate}
 use Rattle.answers.specs.Order.{ifDone}
 use Rattle.lane.specs.declared.Lane.{Lane}
-use Rattle.lane.specs.Record.{soundLane, admits, idleLane, opened, lacks, yielded}
+use Rattle.lane.specs.Record.{soundLane, admits, idleLane}
+use Rattle.lane_turns.specs.Turns.{opened, lacks, yielded}
 use Rattle.bench.specs.declared.Bench.{Bench}
 use Rattle.bench.specs.declared.Answer.{Answer}
 use Rattle.bench.specs.Turning.{laneCount, laneAt, turnedBy, total}

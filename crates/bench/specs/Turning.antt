@@ -6,7 +6,8 @@ use lib.Dec.{eqb, ltb}
 use lib.ListN.{getD, set}
 use Rattle.packing.specs.Packing.{noWords}
 use Rattle.lane.specs.declared.Lane.{Lane}
-use Rattle.lane.specs.Record.{idle, running, served}
+use Rattle.lane.specs.Record.{idle, running}
+use Rattle.lane_turns.specs.Turns.{served}
 use Rattle.bench.specs.declared.Bench.{Bench}
 
 -- how many lanes a bench has

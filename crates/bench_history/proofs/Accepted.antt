@@ -7,7 +7,8 @@ use Prim.Native.Nat.{ℕ, _≤_, _<_}
 use lib.ListN.{length}
 use Rattle.answers.proofs.Outcome.{if-done, if-refused}
 use Rattle.published.specs.Seen.{isOrder}
-use Rattle.lane.specs.Record.{idle, finished, admits, idleLane, opened}
+use Rattle.lane.specs.Record.{idle, finished, admits, idleLane}
+use Rattle.lane_turns.specs.Turns.{opened}
 use Rattle.bench.specs.declared.Bench.{Bench}
 use Rattle.bench.specs.Turning.{laneCount, laneAt, turnedBy, servedBy}
 use Rattle.bench.specs.Calls.{put, answered, openOf, turnOf, takeOf, closeOf}

@@ -20,8 +20,10 @@ use Rattle.primitives.specs.Packed.{blockOf, Words}
 use Rattle.primitives.proofs.Blocks.{blockOf-lt, blockOf-stateOf, stateOf-blockOf}
 use Rattle.round_words.specs.Arranged.{pairsFrom}
 use Rattle.lane.specs.declared.Lane.{Lane}
-use Rattle.lane.specs.Record.{idle, running, finished, idleLane, everything, allZero, soundLane, opened, advanced, served, lacks}
-use Rattle.lane.proofs.Records.{tidy, next, finished-count, sound-count, eight-finished, yielded-bytes}
+use Rattle.lane.specs.Record.{idle, running, finished, idleLane, everything, allZero, soundLane}
+use Rattle.lane_turns.specs.Turns.{opened, advanced, served, lacks}
+use Rattle.lane.proofs.Records.{tidy, finished-count, sound-count, eight-finished}
+use Rattle.lane_turns.proofs.Serving.{next, yielded-bytes}
 use Rattle.bench.specs.declared.Bench.{Bench}
 use Rattle.bench.specs.Turning.{laneCount, laneAt}
 use Rattle.bench.specs.Orders.{takeCode}

@@ -11,7 +11,8 @@ use lib.ListN.{length, replicate}
 use borrow.Author.Tests.{eqb-false}
 use Rattle.answers.proofs.Outcome.{if-done, if-refused}
 use Rattle.lane.specs.declared.Lane.{Lane}
-use Rattle.lane.specs.Record.{idleLane, opened, lacks}
+use Rattle.lane.specs.Record.{idleLane}
+use Rattle.lane_turns.specs.Turns.{opened, lacks}
 use Rattle.bench.specs.declared.Bench.{Bench}
 use Rattle.bench.specs.Turning.{laneAt, chosen, anyRuns, turned, turnedBy, servedBy, total}
 use Rattle.bench.specs.Orders.{turnCode}

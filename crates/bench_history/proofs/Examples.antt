@@ -7,7 +7,8 @@ use Prim.Native.Nat.{ℕ, zero, suc, _+_, _-_, _*_, _%_}
 use lib.Dec.{eqb}
 use lib.ListN.{length, getD, take, replicate}
 use borrow.Author.Tests.{eqb-false}
-use Rattle.lane.specs.Record.{idleLane, everything, allZero, soundCount, soundLane, admits, opened, served, lacks}
+use Rattle.lane.specs.Record.{idleLane, everything, allZero, soundCount, soundLane, admits}
+use Rattle.lane_turns.specs.Turns.{opened, served, lacks}
 use Rattle.bench.specs.declared.Bench.{Bench}
 use Rattle.bench.specs.Turning.{laneCount, runs, after, seek, chosen, anyRuns, turned, turnedBy, servedBy, total}
 use Rattle.bench.specs.Orders.{openCode, turnCode, takeCode, closeCode}

@@ -16,8 +16,10 @@ use Rattle.primitives.specs.declared.State.{State}
 use Rattle.packing.specs.Packing.{packed}
 use Rattle.gift128.specs.Calls.{newWords}
 use Rattle.lane.specs.declared.Lane.{Lane}
-use Rattle.lane.specs.Record.{idle, running, finished, idleLane, soundLane, admits, opened, advanced, served, lacks, yielded}
-use Rattle.lane.proofs.Records.{next, busy-is, busy-admits}
+use Rattle.lane.specs.Record.{idle, running, finished, idleLane, soundLane, admits}
+use Rattle.lane_turns.specs.Turns.{opened, advanced, served, lacks, yielded}
+use Rattle.lane.proofs.Records.{busy-is, busy-admits}
+use Rattle.lane_turns.proofs.Serving.{next}
 use Rattle.bench.specs.declared.Bench.{Bench}
 use Rattle.bench.specs.Turning.{laneCount, laneAt, runs, after, seek, chosen, anyRuns, turned, turnedBy, total}
 use Rattle.bench.specs.Orders.{openCode, turnCode, takeCode, closeCode}

@@ -13,8 +13,9 @@ use borrow.Author.Tests.{eq-eqb, ne-eqb, eqb-false, not-true}
 use Rattle.bits.proofs.Computed.{cond-true, cond-false}
 use Rattle.bits.proofs.Truth.{both}
 use Rattle.lane.specs.declared.Lane.{Lane}
-use Rattle.lane.specs.Record.{idle, running, soundLane, served}
-use Rattle.lane.proofs.Records.{served-count, served-busy, served-owner}
+use Rattle.lane.specs.Record.{idle, running, soundLane}
+use Rattle.lane_turns.specs.Turns.{served}
+use Rattle.lane_turns.proofs.Serving.{served-count, served-busy, served-owner}
 use Rattle.bench.specs.declared.Bench.{Bench}
 use Rattle.bench.specs.Turning.{laneAt, chosen, anyRuns, turned, turnedBy, servedBy}
 use Rattle.bench.proofs.Soundness.{Sound, set-here, set-there}

@@ -10,7 +10,8 @@ use borrow.Author.Tests.{eq-eqb, ne-eqb, le-leb, eqb-true, eqb-false}
 use Rattle.bits.proofs.Truth.{together}
 use Rattle.lane.specs.declared.Lane.{Lane}
 use Rattle.published.specs.Seen.{isOrder}
-use Rattle.lane.specs.Record.{idle, finished, soundLane, soundCount, admits, idleLane, opened}
+use Rattle.lane.specs.Record.{idle, finished, soundLane, soundCount, admits, idleLane}
+use Rattle.lane_turns.specs.Turns.{opened}
 use Rattle.lane.proofs.Records.{idle-sound, tidy-sound, busy-admits}
 use Rattle.bench.specs.declared.Bench.{Bench}
 use Rattle.bench.specs.Turning.{laneCount, laneAt, turnedBy, servedBy}

@@ -12,8 +12,9 @@ use lib.ListN.{length, take}
 use borrow.Author.Tests.{eqb-true, eqb-false, not-true}
 use Rattle.bits.proofs.Truth.{both}
 use Rattle.lane.specs.declared.Lane.{Lane}
-use Rattle.lane.specs.Record.{running, lacks}
-use Rattle.lane.proofs.Records.{served-lacks, served-owner}
+use Rattle.lane.specs.Record.{running}
+use Rattle.lane_turns.specs.Turns.{lacks}
+use Rattle.lane_turns.proofs.Serving.{served-lacks, served-owner}
 use Rattle.bench.specs.declared.Bench.{Bench}
 use Rattle.bench.specs.Turning.{laneCount, laneAt, runs, after, chosen, anyRuns, turned, turnedBy, servedBy}
 use Rattle.bench.proofs.Soundness.{Sound}

@@ -14,7 +14,8 @@ use Rattle.key_schedule.specs.Expand.{expandCode, expanded}
 use Rattle.key_schedule.proofs.Expanded.{length-expanded}
 use Rattle.gift128.specs.Calls.{newWords}
 use Rattle.lane.specs.declared.Lane.{Lane}
-use Rattle.lane.specs.Record.{idle, idleLane, opened, served}
+use Rattle.lane.specs.Record.{idle, idleLane}
+use Rattle.lane_turns.specs.Turns.{opened, served}
 use Rattle.lane.proofs.Zero.{zero-is-idle}
 use Rattle.lane.proofs.Records.{idle-is}
 use Rattle.bench.specs.declared.Bench.{Bench}

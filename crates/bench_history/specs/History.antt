@@ -6,7 +6,7 @@ use lib.Dec.{eqb}
 use Rattle.answers.specs.Numbers.{DONE}
 use Rattle.answers.specs.Order.{ifDone}
 use Rattle.lane.specs.declared.Lane.{Lane}
-use Rattle.lane.specs.Record.{served}
+use Rattle.lane_turns.specs.Turns.{served}
 use Rattle.bench.specs.declared.Bench.{Bench}
 use Rattle.bench.specs.declared.Answer.{Answer}
 use Rattle.bench.specs.Turning.{servedBy}

@@ -7,7 +7,8 @@ use Prim.Native.Nat.{ℕ, _≤_, _<_}
 use lib.ListN.{length, set}
 use borrow.Author.Tests.{leb-true}
 use Rattle.lane.specs.declared.Lane.{Lane}
-use Rattle.lane.specs.Record.{admits, idleLane, opened, yielded}
+use Rattle.lane.specs.Record.{admits, idleLane}
+use Rattle.lane_turns.specs.Turns.{opened, yielded}
 use Rattle.bench.specs.declared.Bench.{Bench}
 use Rattle.bench.specs.declared.Answer.{Answer}
 use Rattle.bench.specs.Turning.{laneCount, laneAt}

@@ -6,8 +6,8 @@ use Prim.Native.Nat.{ℕ, _≤_, _<_}
 use lib.Dec.{ltb}
 use lib.ListN.{set}
 use Rattle.lane.specs.declared.Lane.{Lane}
-use Rattle.lane.specs.Record.{served}
-use Rattle.lane.proofs.Records.{next}
+use Rattle.lane_turns.specs.Turns.{served}
+use Rattle.lane_turns.proofs.Serving.{next}
 use Rattle.bench.specs.declared.Bench.{Bench}
 use Rattle.bench.specs.Turning.{laneCount, laneAt, chosen, turned}
 use Rattle.bench.proofs.Made.{turned-at, turned-none, chosen-none}

@@ -38,11 +38,11 @@ use denote.Triple.Statement.{Contract, Triple}
 use denote.Triple.Table.{entered, cited}
 use denote.Triple.Walked.{says, Stays, stay-slice, stay-none, stay-none-slice, walkOf, Goes, AllGo, goes-slice, goes-none, goes-none-slice, Walks, ends-at, walked, walk-meets}
 use Rattle.lane.specs.declared.Lane.{Lane}
-use Rattle.lane.specs.Record.{opened as opens}
-use Rattle.lane.proofs.opened as opened
-use Rattle.lane.proofs.opened.Symbol as opened-def
-use Rattle.lane.proofs.opened.Symbol.{name as #lane·opened}
-use Rattle.lane.proofs.opened.Met as opened-thm
+use Rattle.lane_turns.specs.Turns.{opened as opens}
+use Rattle.lane_turns.proofs.opened as opened
+use Rattle.lane_turns.proofs.opened.Symbol as opened-def
+use Rattle.lane_turns.proofs.opened.Symbol.{name as #lane·opened}
+use Rattle.lane_turns.proofs.opened.Met as opened-thm
 use Rattle.bench.proofs.orders.open_code.Symbol as open-code-def
 use Rattle.bench.proofs.orders.open_code.Symbol.{name as #bench·orders·open-code}
 use Rattle.bench.proofs.orders.open_code.Met as open-code-thm

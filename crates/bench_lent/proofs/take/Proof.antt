@@ -36,8 +36,8 @@ use denote.Triple.Statement.{Contract, Triple}
 use denote.Triple.Table.{entered, cited}
 use denote.Triple.Walked.{says, Stays, stay-slice, gave-slice, stay-none, walkOf, AllGo, goes-slice, goes-gave-slice, goes-none, Walks, ends-at, walked, walk-meets}
 use Rattle.lane.specs.declared.Lane.{Lane}
-use Rattle.lane.specs.Record.{yielded as yields}
-use Rattle.lane.proofs.yielded as yielded
+use Rattle.lane_turns.specs.Turns.{yielded as yields}
+use Rattle.lane_turns.proofs.yielded as yielded
 use Rattle.bench_lent.specs.Lent.{Takes}
 use Rattle.bench_lent.proofs.Answering.{take-in, take-no, take-yes}
 use Rattle.bench_lent.proofs.Walk.{allocated, freed}
@@ -49,9 +49,9 @@ use Rattle.bench_lent.proofs.Steps.{var, part, lets, gets, relent, test
 use Rattle.bench.proofs.orders.take_code.Symbol as take-code-def
 use Rattle.bench.proofs.orders.take_code.Symbol.{name as #bench·orders·take-code}
 use Rattle.bench.proofs.orders.take_code.Met as take-code-thm
-use Rattle.lane.proofs.yielded.Symbol as yielded-def
-use Rattle.lane.proofs.yielded.Symbol.{name as #lane·yielded}
-use Rattle.lane.proofs.yielded.Met as yielded-thm
+use Rattle.lane_turns.proofs.yielded.Symbol as yielded-def
+use Rattle.lane_turns.proofs.yielded.Symbol.{name as #lane·yielded}
+use Rattle.lane_turns.proofs.yielded.Met as yielded-thm
 use Rattle.lane.proofs.idle_lane.Symbol as idle-lane-def
 use Rattle.lane.proofs.idle_lane.Symbol.{name as #lane·idle-lane}
 use Rattle.lane.proofs.idle_lane.Met as idle-lane-thm

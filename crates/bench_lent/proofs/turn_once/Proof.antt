@@ -21,9 +21,9 @@ use denote.Slice.{Room}
 use denote.Triple.Statement.{Triple}
 use denote.Triple.Table.{entered, cited}
 use Rattle.lane.specs.declared.Lane.{Lane}
-use Rattle.lane.proofs.served.Symbol as served-def
-use Rattle.lane.proofs.served.Symbol.{name as #lane·served}
-use Rattle.lane.proofs.served.Met as served-thm
+use Rattle.lane_turns.proofs.served.Symbol as served-def
+use Rattle.lane_turns.proofs.served.Symbol.{name as #lane·served}
+use Rattle.lane_turns.proofs.served.Met as served-thm
 use Rattle.bench.specs.Turning.{laneCount, chosen}
 use Rattle.bench.proofs.Seeking.{after-lt, chosen-is}
 use Rattle.bench.proofs.after.Symbol as after-def

@@ -1,8 +1,8 @@
--- `lane::opened` makes the record of a lane that has just been opened.
+-- `lane_turns::opened` makes the record of a lane that has just been opened.
 use borrow.Author.Needs.{needs}
-use Rattle.lane.specs.Record.{opened}
-use Rattle.lane.proofs.opened.Statement.{statement}
-use Rattle.lane.proofs.opened.Tie as tie
+use Rattle.lane_turns.specs.Turns.{opened}
+use Rattle.lane_turns.proofs.opened.Statement.{statement}
+use Rattle.lane_turns.proofs.opened.Tie as tie
 
 returns : tie.Need-returns
 unfolding opened

@@ -1,4 +1,4 @@
--- `lane::advanced` asks for the lane's next quintuple round.
+-- `lane_turns::advanced` asks for the lane's next quintuple round.
 use mathlib.Core.Path.{_≡_, _∙_}
 use Prim.Native.Nat.{_-_, _*_}
 use lib.ListN.{length}
@@ -8,9 +8,9 @@ use borrow.Author.Tests.{ne-eqb}
 use Rattle.bits.proofs.Computed.{cond-true}
 use Rattle.quintuple.specs.Quintuple.{several, unseveral}
 use Rattle.quintuple.proofs.Several.{reaches}
-use Rattle.lane.specs.Record.{advanced}
-use Rattle.lane.proofs.advanced.Statement.{statement}
-use Rattle.lane.proofs.advanced.Tie as tie
+use Rattle.lane_turns.specs.Turns.{advanced}
+use Rattle.lane_turns.proofs.advanced.Statement.{statement}
+use Rattle.lane_turns.proofs.advanced.Tie as tie
 
 returns : tie.Need-returns
 unfolding advanced several

@@ -1,14 +1,15 @@
--- `lane::served` gives a lane a turn of its own.
+-- `lane_turns::served` gives a lane a turn of its own.
 use mathlib.Core.Path.{sym, ap}
 use mathlib.Core.Bool.{Bool, cond}
 use Prim.Native.Nat.{_+_}
 use native.Mathlib.Omega.{arith}
 use borrow.Author.Needs.{needs}
 use borrow.Author.Tests.{le-ltb, eq-eqb, ne-eqb}
-use Rattle.lane.specs.Record.{running, finished, served}
-use Rattle.lane.proofs.Records.{served-by}
-use Rattle.lane.proofs.served.Statement.{statement}
-use Rattle.lane.proofs.served.Tie as tie
+use Rattle.lane.specs.Record.{running, finished}
+use Rattle.lane_turns.specs.Turns.{served}
+use Rattle.lane_turns.proofs.Serving.{served-by}
+use Rattle.lane_turns.proofs.served.Statement.{statement}
+use Rattle.lane_turns.proofs.served.Tie as tie
 
 returns : tie.Need-returns
 unfolding served

@@ -1,8 +1,8 @@
--- `lane::yielded` writes the bytes of the lane's block.
+-- `lane_turns::yielded` writes the bytes of the lane's block.
 use borrow.Author.Needs.{needs}
-use Rattle.lane.specs.Record.{yielded}
-use Rattle.lane.proofs.yielded.Statement.{statement}
-use Rattle.lane.proofs.yielded.Tie as tie
+use Rattle.lane_turns.specs.Turns.{yielded}
+use Rattle.lane_turns.proofs.yielded.Statement.{statement}
+use Rattle.lane_turns.proofs.yielded.Tie as tie
 
 returns : tie.Need-returns
 unfolding yielded
