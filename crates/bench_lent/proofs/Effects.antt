@@ -8,9 +8,10 @@ use lib.ListN.{set}
 use Rattle.lane.specs.declared.Lane.{Lane}
 use Rattle.lane_turns.specs.Turns.{served}
 use Rattle.lane_turns.proofs.Serving.{next}
-use Rattle.bench.specs.declared.Bench.{Bench}
-use Rattle.bench.specs.Turning.{laneCount, laneAt, chosen, turned}
-use Rattle.bench.proofs.Made.{turned-at, turned-none, chosen-none}
+use Rattle.bench_orders.specs.Orders.{laneCount}
+use Rattle.bench_turns.specs.declared.Bench.{Bench}
+use Rattle.bench_turns.specs.Turning.{laneAt, chosen, turned}
+use Rattle.bench_turns.proofs.Made.{turned-at, turned-none, chosen-none}
 use Rattle.bench_lent.specs.Lent.{benchOf}
 use Rattle.bench_lent.specs.Inner.{renewed}
 
