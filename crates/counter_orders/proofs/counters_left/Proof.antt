@@ -1,8 +1,8 @@
--- `counter::orders::counters_left`: none if spent.
+-- `counter_orders::counters_left`: none if spent.
 use borrow.Author.Needs.{needs}
 use borrow.Author.Tests.{ne-eqb}
-use Rattle.counter.proofs.orders.counters_left.Statement.{statement}
-use Rattle.counter.proofs.orders.counters_left.Tie as tie
+use Rattle.counter_orders.proofs.counters_left.Statement.{statement}
+use Rattle.counter_orders.proofs.counters_left.Tie as tie
 
 returns : tie.Need-returns
 returns c = rw (ne-eqb _ 0 (c .if1 .taken))

@@ -1,10 +1,10 @@
--- `counter::orders::piece_code` tries 10, 3, 12.
+-- `counter_orders::piece_code` tries 10, 3, 12.
 use borrow.Author.Needs.{needs}
 use borrow.Author.Tests.{le-leb, lt-leb, eq-eqb, ne-eqb}
 use Rattle.bits.proofs.Truth.{told-false, told-true}
-use Rattle.counter.specs.Calls.{pieceCode}
-use Rattle.counter.proofs.orders.piece_code.Statement.{statement}
-use Rattle.counter.proofs.orders.piece_code.Tie as tie
+use Rattle.counter_orders.specs.Orders.{pieceCode}
+use Rattle.counter_orders.proofs.piece_code.Statement.{statement}
+use Rattle.counter_orders.proofs.piece_code.Tie as tie
 
 returns : tie.Need-returns
 unfolding pieceCode

@@ -7,7 +7,7 @@ use borrow.Author.Tests.{eqb-true, eqb-false, leb-true, leb-false}
 use Rattle.answers.specs.Numbers.{DONE, BAD_KEY_LENGTH, BAD_BLOCK_LENGTH, BAD_OUTPUT_LENGTH, BAD_STATE, TOO_FEW_COUNTERS}
 use Rattle.answers.specs.Order.{unless}
 use Rattle.answers.proofs.Passed.{passed}
-use Rattle.counter.specs.Calls.{startCode, needed, left, enough, pieceCode}
+use Rattle.counter_orders.specs.Orders.{startCode, needed, left, enough, pieceCode}
 
 pub start-passed : (key nonce : ℕ) → startCode key nonce ≡ 0 → (key ≡ 16) × (nonce ≡ 12)
 unfolding startCode

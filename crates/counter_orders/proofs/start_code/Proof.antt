@@ -1,8 +1,8 @@
--- `counter::orders::start_code` tries 1, 2.
+-- `counter_orders::start_code` tries 1, 2.
 use borrow.Author.Tests.{ne-eqb}
-use Rattle.counter.specs.Calls.{startCode}
-use Rattle.counter.proofs.orders.start_code.Statement.{statement}
-use Rattle.counter.proofs.orders.start_code.Tie as tie
+use Rattle.counter_orders.specs.Orders.{startCode}
+use Rattle.counter_orders.proofs.start_code.Statement.{statement}
+use Rattle.counter_orders.proofs.start_code.Tie as tie
 
 returns : tie.Need-returns
 unfolding startCode

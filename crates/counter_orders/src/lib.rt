@@ -6,10 +6,10 @@ use answers::BAD_STATE;
 use answers::DONE;
 use answers::TOO_FEW_COUNTERS;
 ghost use mathlib.Core.Path.{_≡_};
-ghost use Rattle.counter.specs.Calls.{startCode, needed, left, enough, pieceCode};
+ghost use Rattle.counter_orders.specs.Orders.{startCode, needed, left, enough, pieceCode};
 
 // Starting: 1, 2.
-pub(crate) fn start_code(key: usize, nonce: usize) -> u32
+pub fn start_code(key: usize, nonce: usize) -> u32
     ensures { λ r. ⌜ r ≡ startCode key nonce ⌝ }
 {
     if key != 16 {
@@ -22,7 +22,7 @@ pub(crate) fn start_code(key: usize, nonce: usize) -> u32
 }
 
 // New blocks that n bytes need. Written so that no length overflows.
-pub(crate) fn blocks_needed(unused: usize, n: usize) -> usize
+pub fn blocks_needed(unused: usize, n: usize) -> usize
     ensures { λ r. ⌜ r ≡ needed unused n ⌝ }
 {
     if n <= unused {
@@ -49,7 +49,7 @@ fn has_enough(counter: u32, unused: u32, spent: u32, n: usize) -> bool
 }
 
 // A piece: 10, 3, 12.
-pub(crate) fn piece_code(counter: u32, unused: u32, spent: u32, input: usize, output: usize) -> u32
+pub fn piece_code(counter: u32, unused: u32, spent: u32, input: usize, output: usize) -> u32
     ensures { λ r. ⌜ r ≡ pieceCode counter unused spent input output ⌝ }
 {
     if 15 < unused {

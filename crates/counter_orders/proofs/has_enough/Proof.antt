@@ -1,8 +1,8 @@
--- `counter::orders::has_enough` compares the two.
+-- `counter_orders::has_enough` compares the two.
 use borrow.Author.Needs.{needs}
-use Rattle.counter.specs.Calls.{enough}
-use Rattle.counter.proofs.orders.has_enough.Statement.{statement}
-use Rattle.counter.proofs.orders.has_enough.Tie as tie
+use Rattle.counter_orders.specs.Orders.{enough}
+use Rattle.counter_orders.proofs.has_enough.Statement.{statement}
+use Rattle.counter_orders.proofs.has_enough.Tie as tie
 
 returns : tie.Need-returns
 unfolding enough
