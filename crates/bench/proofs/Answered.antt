@@ -7,15 +7,17 @@ use mathlib.Core.Logic.{_≢_}
 use Prim.Native.Nat.{ℕ}
 use lib.ListN.{length}
 use Rattle.answers.proofs.Outcome.{if-done, if-refused}
-use Rattle.lane.specs.Record.{admits, idleLane, opened, yielded}
-use Rattle.bench.specs.declared.Bench.{Bench}
+use Rattle.lane.specs.Record.{admits, idleLane}
+use Rattle.lane_turns.specs.Turns.{opened, yielded}
+use Rattle.bench_orders.specs.Orders.{openCode, turnCode, takeCode, closeCode}
+use Rattle.bench_orders.proofs.Passing.{turn-passed}
+use Rattle.bench_turns.specs.declared.Bench.{Bench}
+use Rattle.bench_turns.specs.Turning.{laneAt, turnedBy, servedBy}
+use Rattle.bench_turns.specs.Sound.{soundBench}
+use Rattle.bench_turns.proofs.Soundness.{is-sound}
+use Rattle.bench_turns.proofs.Made.{made-is}
 use Rattle.bench.specs.declared.Answer.{Answer}
-use Rattle.bench.specs.Turning.{laneAt, turnedBy, servedBy}
-use Rattle.bench.specs.Orders.{openCode, turnCode, takeCode, closeCode}
-use Rattle.bench.specs.Calls.{soundBench, put, answered, openOf, turnOf, takeOf, takenBytes, closeOf}
-use Rattle.bench.proofs.Passing.{turn-passed}
-use Rattle.bench.proofs.Soundness.{is-sound}
-use Rattle.bench.proofs.Made.{made-is}
+use Rattle.bench.specs.Calls.{put, answered, openOf, turnOf, takeOf, takenBytes, closeOf}
 
 abbrev pub answer : ℕ → ℕ → Bench → Answer
 answer r made b = record { code = r; made = made; bench = b }

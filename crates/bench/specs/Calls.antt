@@ -1,28 +1,20 @@
 -- What each call promises to answer: its number, the turns told, and the bench that it leaves; of a take, the bytes too. A refusal gives back what came in.
-use mathlib.Core.Bool.{Bool, true, _&&_}
-use mathlib.Core.List.{List, [], _∷_}
+use mathlib.Core.List.{List}
 use Prim.Native.Nat.{ℕ, _-_, min}
-use lib.Dec.{eqb, ltb}
 use lib.ListN.{length, set, replicate}
 use Rattle.answers.specs.Order.{ifDone}
 use Rattle.lane.specs.declared.Lane.{Lane}
-use Rattle.lane.specs.Record.{soundLane, admits, idleLane, opened, lacks, yielded}
-use Rattle.bench.specs.declared.Bench.{Bench}
+use Rattle.lane.specs.Record.{admits, idleLane}
+use Rattle.lane_turns.specs.Turns.{opened, lacks, yielded}
+use Rattle.bench_orders.specs.Orders.{laneCount, openCode, turnCode, takeCode, closeCode}
+use Rattle.bench_turns.specs.declared.Bench.{Bench}
+use Rattle.bench_turns.specs.Sound.{soundBench}
+use Rattle.bench_turns.specs.Turning.{laneAt, turnedBy, total}
 use Rattle.bench.specs.declared.Answer.{Answer}
-use Rattle.bench.specs.Turning.{laneCount, laneAt, turnedBy, total}
-use Rattle.bench.specs.Orders.{openCode, turnCode, takeCode, closeCode}
 
 -- a fresh bench: all idle, all zero, the last lane the one last served
 unfoldable pub freshBench : Bench
 freshBench = record { lanes = replicate laneCount idleLane; last = laneCount - 1 }
-
-unfoldable pub allSound : List Lane → Bool
-allSound [] = true
-allSound (l ∷ ls) = soundLane l && allSound ls
-
--- as many records as there are lanes, each of them sound, and one of them last served
-unfoldable pub soundBench : Bench → Bool
-soundBench b = eqb (length (b .lanes)) laneCount && ltb (b .last) laneCount && allSound (b .lanes)
 
 -- a bench with another record in lane i
 unfoldable pub put : Bench → ℕ → Lane → Bench

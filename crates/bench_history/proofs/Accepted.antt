@@ -7,12 +7,14 @@ use Prim.Native.Nat.{ℕ, _≤_, _<_}
 use lib.ListN.{length}
 use Rattle.answers.proofs.Outcome.{if-done, if-refused}
 use Rattle.published.specs.Seen.{isOrder}
-use Rattle.lane.specs.Record.{idle, finished, admits, idleLane, opened}
-use Rattle.bench.specs.declared.Bench.{Bench}
-use Rattle.bench.specs.Turning.{laneCount, laneAt, turnedBy, servedBy}
+use Rattle.lane.specs.Record.{idle, finished, admits, idleLane}
+use Rattle.lane_turns.specs.Turns.{opened}
+use Rattle.bench_orders.specs.Orders.{laneCount}
+use Rattle.bench_orders.proofs.Passing.{open-passed, turn-passed, take-passed, close-passed}
+use Rattle.bench_turns.specs.declared.Bench.{Bench}
+use Rattle.bench_turns.specs.Turning.{laneAt, turnedBy, servedBy}
+use Rattle.bench_turns.proofs.Soundness.{Sound, is-sound}
 use Rattle.bench.specs.Calls.{put, answered, openOf, turnOf, takeOf, closeOf}
-use Rattle.bench.proofs.Passing.{open-passed, turn-passed, take-passed, close-passed}
-use Rattle.bench.proofs.Soundness.{Sound, is-sound}
 use Rattle.bench_history.specs.History.{Call, opening, turning, taking, closing, answerTo, codeOf, leaves, tells, asks, serves}
 
 -- ---- refused

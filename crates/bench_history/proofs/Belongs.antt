@@ -11,11 +11,12 @@ use Rattle.answers.specs.Numbers.{DONE, BAD_BLOCK_LENGTH, LANE_NOT_FINISHED, NO
 use Rattle.lane.specs.declared.Lane.{Lane}
 use Rattle.lane.specs.Record.{finished, admits, idleLane}
 use Rattle.lane.proofs.Records.{idle-admits, busy-admits}
-use Rattle.bench.specs.declared.Bench.{Bench}
-use Rattle.bench.specs.Turning.{laneCount, laneAt}
-use Rattle.bench.specs.Orders.{takeCode, closeCode}
-use Rattle.bench.specs.Calls.{soundBench, answered, takeOf, takenBytes, closeOf}
-use Rattle.bench.proofs.Soundness.{Sound, is-sound, says-sound}
+use Rattle.bench_orders.specs.Orders.{laneCount, takeCode, closeCode}
+use Rattle.bench_turns.specs.declared.Bench.{Bench}
+use Rattle.bench_turns.specs.Turning.{laneAt}
+use Rattle.bench_turns.specs.Sound.{soundBench}
+use Rattle.bench_turns.proofs.Soundness.{Sound, is-sound, says-sound}
+use Rattle.bench.specs.Calls.{answered, takeOf, takenBytes, closeOf}
 use Rattle.bench_history.specs.History.{Call, taking, closing, answerTo, leaves}
 use Rattle.bench_history.specs.Promises.{BusyFor, ShutTo, Early, Admission, OwnerStays, Belongs, Refused}
 use Rattle.bench_history.proofs.Effects.{refused}

@@ -20,13 +20,16 @@ use Rattle.primitives.specs.Packed.{blockOf, Words}
 use Rattle.primitives.proofs.Blocks.{blockOf-lt, blockOf-stateOf, stateOf-blockOf}
 use Rattle.round_words.specs.Arranged.{pairsFrom}
 use Rattle.lane.specs.declared.Lane.{Lane}
-use Rattle.lane.specs.Record.{idle, running, finished, idleLane, everything, allZero, soundLane, opened, advanced, served, lacks}
-use Rattle.lane.proofs.Records.{tidy, next, finished-count, sound-count, eight-finished, yielded-bytes}
-use Rattle.bench.specs.declared.Bench.{Bench}
-use Rattle.bench.specs.Turning.{laneCount, laneAt}
-use Rattle.bench.specs.Orders.{takeCode}
-use Rattle.bench.specs.Calls.{freshBench, allSound, soundBench, answered, takeOf, takenBytes}
-use Rattle.bench.proofs.Soundness.{Sound, is-sound, says-sound}
+use Rattle.lane.specs.Record.{idle, running, finished, idleLane, everything, allZero, soundLane}
+use Rattle.lane.proofs.Records.{tidy, finished-count, sound-count, eight-finished}
+use Rattle.lane_turns.specs.Turns.{opened, advanced, served, lacks}
+use Rattle.lane_turns.proofs.Serving.{next, yielded-bytes}
+use Rattle.bench_orders.specs.Orders.{laneCount, takeCode}
+use Rattle.bench_turns.specs.declared.Bench.{Bench}
+use Rattle.bench_turns.specs.Turning.{laneAt}
+use Rattle.bench_turns.specs.Sound.{allSound, soundBench}
+use Rattle.bench_turns.proofs.Soundness.{Sound, is-sound, says-sound}
+use Rattle.bench.specs.Calls.{freshBench, answered, takeOf, takenBytes}
 use Rattle.bench_history.specs.History.{Call, opening, turning, taking, closing, answerTo, codeOf, leaves, run, log, times, closes, releases, never, servedTimes}
 use Rattle.bench_history.specs.Promises.{reached, onward, owning, ordering, answer, BusyFor, ShutTo, Opening, call, calls, end, finds, left, made, own, Accepted, Unclosed, Kept, Stands, InTime, Held}
 use Rattle.bench_history.proofs.Accepted.{OpenDone, opens, takes}

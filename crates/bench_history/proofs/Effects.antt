@@ -11,14 +11,16 @@ use lib.ListN.{length, replicate}
 use borrow.Author.Tests.{eqb-false}
 use Rattle.answers.proofs.Outcome.{if-done, if-refused}
 use Rattle.lane.specs.declared.Lane.{Lane}
-use Rattle.lane.specs.Record.{idleLane, opened, lacks}
-use Rattle.bench.specs.declared.Bench.{Bench}
-use Rattle.bench.specs.Turning.{laneAt, chosen, anyRuns, turned, turnedBy, servedBy, total}
-use Rattle.bench.specs.Orders.{turnCode}
-use Rattle.bench.specs.Calls.{soundBench, put, answered, turnOf, takenBytes}
-use Rattle.bench.proofs.Soundness.{Sound, is-sound, says-sound}
-use Rattle.bench.proofs.Seeking.{phase-runs, runs-any}
-use Rattle.bench.proofs.Made.{turned-is, turned-none, sound-turned, by-turns, made-is, counts-more}
+use Rattle.lane.specs.Record.{idleLane}
+use Rattle.lane_turns.specs.Turns.{opened, lacks}
+use Rattle.bench_orders.specs.Orders.{turnCode}
+use Rattle.bench_turns.specs.declared.Bench.{Bench}
+use Rattle.bench_turns.specs.Turning.{laneAt, chosen, anyRuns, turned, turnedBy, servedBy, total}
+use Rattle.bench_turns.specs.Sound.{soundBench}
+use Rattle.bench_turns.proofs.Soundness.{Sound, is-sound, says-sound}
+use Rattle.bench_turns.proofs.Seeking.{phase-runs, runs-any}
+use Rattle.bench_turns.proofs.Made.{turned-is, turned-none, sound-turned, by-turns, made-is, counts-more}
+use Rattle.bench.specs.Calls.{put, answered, turnOf, takenBytes}
 use Rattle.bench_history.specs.History.{Call, opening, turning, taking, closing, answerTo, codeOf, leaves, asks, serves, run, log, lastOf, names}
 use Rattle.bench_history.specs.Promises.{Turning, Refused, Frame}
 use Rattle.bench_history.proofs.Accepted.{refused-leaves, refused-tells, refused-serves, TurnDone, turns, opens, takes, closings}

@@ -7,11 +7,13 @@ use Prim.Native.Nat.{ℕ, zero, suc, _+_, _-_, _*_, _%_}
 use lib.Dec.{eqb}
 use lib.ListN.{length, getD, take, replicate}
 use borrow.Author.Tests.{eqb-false}
-use Rattle.lane.specs.Record.{idleLane, everything, allZero, soundCount, soundLane, admits, opened, served, lacks}
-use Rattle.bench.specs.declared.Bench.{Bench}
-use Rattle.bench.specs.Turning.{laneCount, runs, after, seek, chosen, anyRuns, turned, turnedBy, servedBy, total}
-use Rattle.bench.specs.Orders.{openCode, turnCode, takeCode, closeCode}
-use Rattle.bench.specs.Calls.{freshBench, allSound, soundBench, put, answered, openOf, turnOf, takeOf, closeOf}
+use Rattle.lane.specs.Record.{idleLane, everything, allZero, soundCount, soundLane, admits}
+use Rattle.lane_turns.specs.Turns.{opened, served, lacks}
+use Rattle.bench_orders.specs.Orders.{laneCount, openCode, turnCode, takeCode, closeCode}
+use Rattle.bench_turns.specs.declared.Bench.{Bench}
+use Rattle.bench_turns.specs.Turning.{runs, after, seek, chosen, anyRuns, turned, turnedBy, servedBy, total}
+use Rattle.bench_turns.specs.Sound.{allSound, soundBench}
+use Rattle.bench.specs.Calls.{freshBench, put, answered, openOf, turnOf, takeOf, closeOf}
 use Rattle.bench_history.specs.History.{Call, opening, turning, taking, closing, answerTo, codeOf, leaves, tells, asks, serves, run, log, times, never, closes, releases}
 use Rattle.bench_history.specs.Promises.{Opening, Accepted, Unclosed, Kept, made, own}
 use Rattle.bench_history.specs.Guests.{same, opens, takes, Pairwise, none, more}

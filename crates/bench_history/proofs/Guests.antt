@@ -16,12 +16,15 @@ use Rattle.primitives.specs.declared.State.{State}
 use Rattle.packing.specs.Packing.{packed}
 use Rattle.gift128.specs.Calls.{newWords}
 use Rattle.lane.specs.declared.Lane.{Lane}
-use Rattle.lane.specs.Record.{idle, running, finished, idleLane, soundLane, admits, opened, advanced, served, lacks, yielded}
-use Rattle.lane.proofs.Records.{next, busy-is, busy-admits}
-use Rattle.bench.specs.declared.Bench.{Bench}
-use Rattle.bench.specs.Turning.{laneCount, laneAt, runs, after, seek, chosen, anyRuns, turned, turnedBy, total}
-use Rattle.bench.specs.Orders.{openCode, turnCode, takeCode, closeCode}
-use Rattle.bench.specs.Calls.{freshBench, allSound, soundBench, put, answered, openOf, turnOf, takeOf, takenBytes, closeOf}
+use Rattle.lane.specs.Record.{idle, running, finished, idleLane, soundLane, admits}
+use Rattle.lane.proofs.Records.{busy-is, busy-admits}
+use Rattle.lane_turns.specs.Turns.{opened, advanced, served, lacks, yielded}
+use Rattle.lane_turns.proofs.Serving.{next}
+use Rattle.bench_orders.specs.Orders.{laneCount, openCode, turnCode, takeCode, closeCode}
+use Rattle.bench_turns.specs.declared.Bench.{Bench}
+use Rattle.bench_turns.specs.Turning.{laneAt, runs, after, seek, chosen, anyRuns, turned, turnedBy, total}
+use Rattle.bench_turns.specs.Sound.{allSound, soundBench}
+use Rattle.bench.specs.Calls.{freshBench, put, answered, openOf, turnOf, takeOf, takenBytes, closeOf}
 use Rattle.bench_history.specs.History.{Call, opening, turning, taking, closing, answerTo, codeOf, leaves, tells}
 use Rattle.bench_history.specs.Guests.{Alike, same, opens, takes, Pairwise, none, more, takesAs, buffer, told, learns, Apart}
 use Rattle.bench_history.proofs.Accepted.{takes as take-done}

@@ -3,7 +3,7 @@ use mathlib.Core.Path.{_≡_}
 use mathlib.Core.List.{List}
 use Prim.Native.Nat.{ℕ}
 use Rattle.answers.proofs.Outcome.{one-answer}
-use Rattle.bench.specs.declared.Bench.{Bench}
+use Rattle.bench_turns.specs.declared.Bench.{Bench}
 use Rattle.bench.specs.declared.Answer.{Answer}
 use Rattle.bench.specs.Calls.{openOf, turnOf, takeOf, takenBytes, closeOf}
 

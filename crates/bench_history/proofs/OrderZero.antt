@@ -19,9 +19,9 @@ use Rattle.primitives.specs.Packed.{blockOf, stateOf}
 use Rattle.packing.specs.Packing.{noWords, packed, unpacked}
 use Rattle.gift128.specs.Calls.{newWords}
 use Rattle.lane.specs.declared.Lane.{Lane}
-use Rattle.lane.specs.Record.{idle, running, opened, yielded}
-use Rattle.bench.specs.Turning.{laneCount}
-use Rattle.bench.specs.Orders.{openCode}
+use Rattle.lane.specs.Record.{idle, running}
+use Rattle.lane_turns.specs.Turns.{opened, yielded}
+use Rattle.bench_orders.specs.Orders.{laneCount, openCode}
 use Rattle.bench_history.specs.Promises.{reached, answer}
 use Rattle.bench_history.proofs.Quintuples.{reached-from-the-start}
 

@@ -29,8 +29,10 @@ use Rattle.quintuple.proofs.Five.{all-good}
 use Rattle.key_schedule.specs.Expand.{expanded}
 use Rattle.key_schedule.proofs.Expanded.{pairs-of-expanded, length-expanded}
 use Rattle.lane.specs.declared.Lane.{Lane}
-use Rattle.lane.specs.Record.{idle, running, finished, soundCount, soundLane, opened, advanced, served}
-use Rattle.lane.proofs.Records.{tidy, opened-on}
+use Rattle.lane.specs.Record.{idle, running, finished, soundCount, soundLane}
+use Rattle.lane.proofs.Records.{tidy}
+use Rattle.lane_turns.specs.Turns.{opened, advanced, served}
+use Rattle.lane_turns.proofs.Serving.{opened-on}
 use Rattle.bench_history.specs.History.{servedTimes}
 use Rattle.bench_history.specs.Promises.{reached, onward, answer}
 

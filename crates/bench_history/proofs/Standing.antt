@@ -13,13 +13,14 @@ use borrow.Author.Tests.{eq-eqb, ne-eqb, eqb-false, not-true}
 use Rattle.bits.proofs.Computed.{cond-true, cond-false}
 use Rattle.bits.proofs.Truth.{both}
 use Rattle.lane.specs.declared.Lane.{Lane}
-use Rattle.lane.specs.Record.{idle, running, soundLane, served}
-use Rattle.lane.proofs.Records.{served-count, served-busy, served-owner}
-use Rattle.bench.specs.declared.Bench.{Bench}
-use Rattle.bench.specs.Turning.{laneAt, chosen, anyRuns, turned, turnedBy, servedBy}
-use Rattle.bench.proofs.Soundness.{Sound, set-here, set-there}
-use Rattle.bench.proofs.Seeking.{chosen-lt}
-use Rattle.bench.proofs.Made.{turned-is, chosen-phase, chosen-sound, by-turns}
+use Rattle.lane.specs.Record.{idle, running, soundLane}
+use Rattle.lane_turns.specs.Turns.{served}
+use Rattle.lane_turns.proofs.Serving.{served-count, served-busy, served-owner}
+use Rattle.bench_turns.specs.declared.Bench.{Bench}
+use Rattle.bench_turns.specs.Turning.{laneAt, chosen, anyRuns, turned, turnedBy, servedBy}
+use Rattle.bench_turns.proofs.Soundness.{Sound, set-here, set-there}
+use Rattle.bench_turns.proofs.Seeking.{chosen-lt}
+use Rattle.bench_turns.proofs.Made.{turned-is, chosen-phase, chosen-sound, by-turns}
 use Rattle.bench_history.specs.History.{Call, leaves, serves, run, log, times, releases, never, servedTimes}
 use Rattle.bench_history.specs.Promises.{BusyFor}
 use Rattle.bench_history.proofs.Touched.{sound-leaves, Touch, touch, left-by, same, entered, left, served as serving}

@@ -8,15 +8,18 @@ use native.Mathlib.Decide.{ℕ-discrete}
 use lib.Dec.{eqb}
 use borrow.Author.Tests.{eq-eqb, ne-eqb, le-leb, eqb-true, eqb-false}
 use Rattle.bits.proofs.Truth.{together}
-use Rattle.lane.specs.declared.Lane.{Lane}
 use Rattle.published.specs.Seen.{isOrder}
-use Rattle.lane.specs.Record.{idle, finished, soundLane, soundCount, admits, idleLane, opened}
+use Rattle.lane.specs.declared.Lane.{Lane}
+use Rattle.lane.specs.Record.{idle, finished, soundLane, soundCount, admits, idleLane}
 use Rattle.lane.proofs.Records.{idle-sound, tidy-sound, busy-admits}
-use Rattle.bench.specs.declared.Bench.{Bench}
-use Rattle.bench.specs.Turning.{laneCount, laneAt, turnedBy, servedBy}
+use Rattle.lane_turns.specs.Turns.{opened}
+use Rattle.bench_orders.specs.Orders.{laneCount}
+use Rattle.bench_turns.specs.declared.Bench.{Bench}
+use Rattle.bench_turns.specs.Turning.{laneAt, turnedBy, servedBy}
+use Rattle.bench_turns.proofs.Soundness.{Sound, set-here, set-there}
+use Rattle.bench_turns.proofs.Made.{sound-turns}
 use Rattle.bench.specs.Calls.{put, takeOf, closeOf}
-use Rattle.bench.proofs.Soundness.{Sound, sound-put, set-here, set-there}
-use Rattle.bench.proofs.Made.{sound-turns}
+use Rattle.bench.proofs.Putting.{sound-put}
 use Rattle.bench_history.specs.History.{Call, opening, turning, taking, closing, answerTo, codeOf, leaves, serves, closes, releases}
 use Rattle.bench_history.specs.Promises.{BusyFor}
 use Rattle.bench_history.proofs.Accepted.{refused-leaves, refused-serves, opens, turns, takes, closings}

@@ -12,13 +12,15 @@ use lib.ListN.{length, take}
 use borrow.Author.Tests.{eqb-true, eqb-false, not-true}
 use Rattle.bits.proofs.Truth.{both}
 use Rattle.lane.specs.declared.Lane.{Lane}
-use Rattle.lane.specs.Record.{running, lacks}
-use Rattle.lane.proofs.Records.{served-lacks, served-owner}
-use Rattle.bench.specs.declared.Bench.{Bench}
-use Rattle.bench.specs.Turning.{laneCount, laneAt, runs, after, chosen, anyRuns, turned, turnedBy, servedBy}
-use Rattle.bench.proofs.Soundness.{Sound}
-use Rattle.bench.proofs.Seeking.{some-lane, phase-runs, steps, steps-lt, steps-after, after-lt, Found, chosen-near, runs-any}
-use Rattle.bench.proofs.Made.{turned-is, sound-turned}
+use Rattle.lane.specs.Record.{running}
+use Rattle.lane_turns.specs.Turns.{lacks}
+use Rattle.lane_turns.proofs.Serving.{served-lacks, served-owner}
+use Rattle.bench_orders.specs.Orders.{laneCount}
+use Rattle.bench_turns.specs.declared.Bench.{Bench}
+use Rattle.bench_turns.specs.Turning.{laneAt, runs, after, chosen, anyRuns, turned, turnedBy, servedBy}
+use Rattle.bench_turns.proofs.Soundness.{Sound}
+use Rattle.bench_turns.proofs.Seeking.{some-lane, phase-runs, steps, steps-lt, steps-after, after-lt, Found, chosen-near, runs-any}
+use Rattle.bench_turns.proofs.Made.{turned-is, sound-turned}
 use Rattle.bench_history.specs.History.{Call, leaves, serves, log, times, closes, never}
 use Rattle.bench_history.specs.Promises.{BusyFor}
 use Rattle.bench_history.proofs.Touched.{sound-leaves, Touch, touch, left-by, same, entered, left, served as serving}

@@ -14,13 +14,16 @@ use Rattle.key_schedule.specs.Expand.{expandCode, expanded}
 use Rattle.key_schedule.proofs.Expanded.{length-expanded}
 use Rattle.gift128.specs.Calls.{newWords}
 use Rattle.lane.specs.declared.Lane.{Lane}
-use Rattle.lane.specs.Record.{idle, idleLane, opened, served}
+use Rattle.lane.specs.Record.{idle, idleLane}
 use Rattle.lane.proofs.Zero.{zero-is-idle}
 use Rattle.lane.proofs.Records.{idle-is}
-use Rattle.bench.specs.declared.Bench.{Bench}
-use Rattle.bench.specs.Turning.{laneCount, laneAt}
-use Rattle.bench.specs.Calls.{freshBench, soundBench, put, openOf}
-use Rattle.bench.proofs.Soundness.{Sound, is-sound}
+use Rattle.lane_turns.specs.Turns.{opened, served}
+use Rattle.bench_orders.specs.Orders.{laneCount}
+use Rattle.bench_turns.specs.declared.Bench.{Bench}
+use Rattle.bench_turns.specs.Turning.{laneAt}
+use Rattle.bench_turns.specs.Sound.{soundBench}
+use Rattle.bench_turns.proofs.Soundness.{Sound, is-sound}
+use Rattle.bench.specs.Calls.{freshBench, put, openOf}
 use Rattle.bench_history.specs.History.{Call, taking, closing, answerTo, codeOf, leaves, run, enters, releases, never, servedTimes}
 use Rattle.bench_history.specs.Promises.{Held, Eighty, AllIdle, Released}
 use Rattle.bench_history.proofs.Accepted.{opens, takes, closings}

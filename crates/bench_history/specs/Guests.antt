@@ -7,7 +7,7 @@ use mathlib.Core.Logic.{_≢_}
 use Prim.Native.Nat.{ℕ}
 use lib.Dec.{eqb}
 use lib.ListN.{length}
-use Rattle.bench.specs.declared.Bench.{Bench}
+use Rattle.bench_turns.specs.declared.Bench.{Bench}
 use Rattle.bench.specs.Calls.{freshBench, takenBytes}
 use Rattle.bench_history.specs.History.{Call, opening, turning, taking, closing, codeOf, leaves, tells}
 

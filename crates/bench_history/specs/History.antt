@@ -6,10 +6,10 @@ use lib.Dec.{eqb}
 use Rattle.answers.specs.Numbers.{DONE}
 use Rattle.answers.specs.Order.{ifDone}
 use Rattle.lane.specs.declared.Lane.{Lane}
-use Rattle.lane.specs.Record.{served}
-use Rattle.bench.specs.declared.Bench.{Bench}
+use Rattle.lane_turns.specs.Turns.{served}
+use Rattle.bench_turns.specs.declared.Bench.{Bench}
+use Rattle.bench_turns.specs.Turning.{servedBy}
 use Rattle.bench.specs.declared.Answer.{Answer}
-use Rattle.bench.specs.Turning.{servedBy}
 use Rattle.bench.specs.Calls.{openOf, turnOf, takeOf, closeOf}
 
 pub data Call : Type 0 where

@@ -13,9 +13,11 @@ use Rattle.published.specs.Rounds.{Pair}
 use Rattle.published.specs.Gift128.{pairsOf, rounds128, unrounds128}
 use Rattle.primitives.specs.Packed.{blockOf, stateOf}
 use Rattle.lane.specs.declared.Lane.{Lane}
-use Rattle.lane.specs.Record.{idle, running, finished, opened, lacks}
-use Rattle.bench.specs.declared.Bench.{Bench}
-use Rattle.bench.specs.Turning.{laneCount, laneAt, total}
+use Rattle.lane.specs.Record.{idle, running, finished}
+use Rattle.lane_turns.specs.Turns.{opened, lacks}
+use Rattle.bench_orders.specs.Orders.{laneCount}
+use Rattle.bench_turns.specs.declared.Bench.{Bench}
+use Rattle.bench_turns.specs.Turning.{laneAt, total}
 use Rattle.bench.specs.Calls.{freshBench, turnOf, takeOf, takenBytes, closeOf}
 use Rattle.bench_history.specs.History.{Call, opening, turning, taking, codeOf, leaves, tells, asks, serves, run, log, times, lastOf, enters, closes, releases, never, names, servedTimes}
 

@@ -7,14 +7,15 @@ use Prim.Native.Nat.{ℕ, _≤_, _<_}
 use lib.ListN.{length, set}
 use borrow.Author.Tests.{leb-true}
 use Rattle.lane.specs.declared.Lane.{Lane}
-use Rattle.lane.specs.Record.{admits, idleLane, opened, yielded}
-use Rattle.bench.specs.declared.Bench.{Bench}
+use Rattle.lane.specs.Record.{admits, idleLane}
+use Rattle.lane_turns.specs.Turns.{opened, yielded}
+use Rattle.bench_orders.specs.Orders.{laneCount, openCode, takeCode, closeCode}
+use Rattle.bench_orders.proofs.Passing.{open-passed, take-passed, close-passed}
+use Rattle.bench_turns.specs.declared.Bench.{Bench}
+use Rattle.bench_turns.specs.Turning.{laneAt}
+use Rattle.bench_turns.proofs.Soundness.{is-sound}
 use Rattle.bench.specs.declared.Answer.{Answer}
-use Rattle.bench.specs.Turning.{laneCount, laneAt}
-use Rattle.bench.specs.Orders.{openCode, takeCode, closeCode}
 use Rattle.bench.specs.Calls.{put}
-use Rattle.bench.proofs.Passing.{open-passed, take-passed, close-passed}
-use Rattle.bench.proofs.Soundness.{is-sound}
 use Rattle.bench.proofs.Answered.{answer, open-refused, open-done, take-refused, take-done, close-refused, close-done}
 use Rattle.bench_lent.specs.declared.Seen.{Seen}
 use Rattle.bench_lent.specs.Lent.{benchOf, Leaves, Opens, Takes, Closes}

@@ -6,11 +6,12 @@ use Prim.Native.Nat.{ℕ, _≤_, _<_}
 use lib.Dec.{ltb}
 use lib.ListN.{set}
 use Rattle.lane.specs.declared.Lane.{Lane}
-use Rattle.lane.specs.Record.{served}
-use Rattle.lane.proofs.Records.{next}
-use Rattle.bench.specs.declared.Bench.{Bench}
-use Rattle.bench.specs.Turning.{laneCount, laneAt, chosen, turned}
-use Rattle.bench.proofs.Made.{turned-at, turned-none, chosen-none}
+use Rattle.lane_turns.specs.Turns.{served}
+use Rattle.lane_turns.proofs.Serving.{next}
+use Rattle.bench_orders.specs.Orders.{laneCount}
+use Rattle.bench_turns.specs.declared.Bench.{Bench}
+use Rattle.bench_turns.specs.Turning.{laneAt, chosen, turned}
+use Rattle.bench_turns.proofs.Made.{turned-at, turned-none, chosen-none}
 use Rattle.bench_lent.specs.Lent.{benchOf}
 use Rattle.bench_lent.specs.Inner.{renewed}
 

@@ -11,9 +11,10 @@ use borrow.Author.Tests.{eqb-true, ltb-true, eq-eqb, lt-ltb, ne-eqb}
 use Rattle.bits.proofs.Truth.{both}
 use Rattle.lane.specs.declared.Lane.{Lane}
 use Rattle.lane.specs.Record.{idle, admits}
-use Rattle.bench.specs.Turning.{laneCount, laneAt}
-use Rattle.bench.specs.Calls.{allSound, soundBench}
-use Rattle.bench.proofs.Soundness.{all-from}
+use Rattle.bench_orders.specs.Orders.{laneCount}
+use Rattle.bench_turns.specs.Turning.{laneAt}
+use Rattle.bench_turns.specs.Sound.{allSound, soundBench}
+use Rattle.bench_turns.proofs.Soundness.{all-from}
 use Rattle.bench_lent.specs.declared.Seen.{Seen}
 use Rattle.bench_lent.specs.Lent.{benchOf}
 use Rattle.bench_lent.specs.Inner.{Starts, Notes, Sees}

@@ -6,7 +6,7 @@ use Prim.Native.Nat.{ℕ}
 use lib.Dec.{eqb}
 use Rattle.answers.proofs.Outcome.{one-answer}
 use Rattle.lane.specs.declared.Lane.{Lane}
-use Rattle.bench.specs.declared.Bench.{Bench}
+use Rattle.bench_turns.specs.declared.Bench.{Bench}
 use Rattle.bench.specs.Calls.{put, answered, openOf, takeOf, closeOf}
 use Rattle.bench_lent.specs.declared.Turns.{Turns}
 use Rattle.bench_lent.specs.Lent.{benchOf, Opens, Serves, Takes, Closes}

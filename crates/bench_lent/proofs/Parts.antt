@@ -3,9 +3,10 @@ use mathlib.Core.Path.{_≡_}
 use mathlib.Core.List.{[], _∷_}
 use Prim.Native.Nat.{_+_, _<_, _^_}
 use lib.ListN.{length, set}
-use Rattle.lane.specs.Record.{idleLane, served}
-use Rattle.bench.specs.Turning.{laneCount, laneAt, after, seek, chosen, turned}
-use Rattle.bench.specs.Orders.{openCode, takeCode, closeCode}
+use Rattle.lane.specs.Record.{idleLane}
+use Rattle.lane_turns.specs.Turns.{served}
+use Rattle.bench_orders.specs.Orders.{laneCount, openCode, takeCode, closeCode}
+use Rattle.bench_turns.specs.Turning.{laneAt, after, seek, chosen, turned}
 use Rattle.bench_lent.specs.Lent.{benchOf, Serves, Closes}
 use Rattle.bench_lent.specs.Inner.{Starts, Notes, Sees, Passes, Begins, Goes, renewed}
 use Rattle.bench_lent.proofs.Plain.{truth, nothing}

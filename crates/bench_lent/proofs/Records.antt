@@ -5,7 +5,7 @@ use mir.Val.{Val}
 use Rattle.lane.specs.declared.Lane.{Lane}
 use Rattle.lane.proofs.Lane as L
 use Rattle.lane.proofs.Lane.Laws as L′
-use Rattle.bench.specs.Turning.{laneAt}
+use Rattle.bench_turns.specs.Turning.{laneAt}
 use Rattle.bench_lent.proofs.Seen as S
 use Rattle.bench_lent.proofs.Seen.Laws as S′
 use Rattle.bench_lent.proofs.Place as P

@@ -9,8 +9,9 @@ use lib.Dec.{eqb}
 use borrow.Author.Tests.{eq-eqb, ne-eqb, lt-ltb, le-ltb}
 use Rattle.lane.specs.declared.Lane.{Lane}
 use Rattle.lane.specs.Record.{running}
-use Rattle.bench.specs.Turning.{laneCount, laneAt, after, seek}
-use Rattle.bench.proofs.Seeking.{some-lane, after-lt, seek-here, seek-on, seek-over}
+use Rattle.bench_orders.specs.Orders.{laneCount}
+use Rattle.bench_turns.specs.Turning.{laneAt, after, seek}
+use Rattle.bench_turns.proofs.Seeking.{some-lane, after-lt, seek-here, seek-on, seek-over}
 use Rattle.bench_lent.specs.declared.Place.{Place}
 use Rattle.bench_lent.specs.Inner.{Passes}
 

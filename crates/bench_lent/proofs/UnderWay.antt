@@ -10,15 +10,16 @@ use lib.ListN.{length, length-set}
 use borrow.Author.Tests.{lt-ltb, le-ltb}
 use Rattle.answers.proofs.Outcome.{if-done, if-refused}
 use Rattle.lane.specs.declared.Lane.{Lane}
-use Rattle.bench.specs.declared.Bench.{Bench}
+use Rattle.bench_orders.specs.Orders.{laneCount, turnCode}
+use Rattle.bench_orders.proofs.Passing.{turn-passed}
+use Rattle.bench_turns.specs.declared.Bench.{Bench}
+use Rattle.bench_turns.specs.Turning.{chosen, turned}
+use Rattle.bench_turns.specs.Sound.{soundBench}
+use Rattle.bench_turns.proofs.Soundness.{is-sound}
+use Rattle.bench_turns.proofs.Made.{chosen-any, chosen-none, turned-is, turned-none}
+use Rattle.bench_turns.proofs.Rest.{Rest, Done, rest-all, rest-one, rest-none, rest-over}
 use Rattle.bench.specs.declared.Answer.{Answer}
-use Rattle.bench.specs.Turning.{laneCount, chosen, turned}
-use Rattle.bench.specs.Orders.{turnCode}
-use Rattle.bench.specs.Calls.{soundBench, turnOf}
-use Rattle.bench.proofs.Passing.{turn-passed}
-use Rattle.bench.proofs.Soundness.{is-sound}
-use Rattle.bench.proofs.Made.{chosen-any, chosen-none, turned-is, turned-none}
-use Rattle.bench.proofs.Rest.{Rest, Done, rest-all, rest-one, rest-none, rest-over}
+use Rattle.bench.specs.Calls.{turnOf}
 use Rattle.bench.proofs.Answered.{turn-refused, turn-done}
 use Rattle.bench_lent.specs.declared.Turns.{Turns}
 use Rattle.bench_lent.specs.declared.Run.{Run}

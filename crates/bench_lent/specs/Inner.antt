@@ -7,9 +7,9 @@ use lib.Dec.{eqb, ltb}
 use Rattle.answers.specs.Order.{ifDone}
 use Rattle.lane.specs.declared.Lane.{Lane}
 use Rattle.lane.specs.Record.{idle, running, soundLane, admits}
-use Rattle.bench.specs.Turning.{laneCount, laneAt, after}
-use Rattle.bench.specs.Orders.{turnCode}
-use Rattle.bench.specs.Calls.{soundBench}
+use Rattle.bench_orders.specs.Orders.{laneCount, turnCode}
+use Rattle.bench_turns.specs.Turning.{laneAt, after}
+use Rattle.bench_turns.specs.Sound.{soundBench}
 use Rattle.bench_lent.specs.declared.Seen.{Seen}
 use Rattle.bench_lent.specs.declared.Place.{Place}
 use Rattle.bench_lent.specs.declared.Run.{Run}

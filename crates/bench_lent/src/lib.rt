@@ -1,25 +1,26 @@
 // The bench's calls over records that a host lends for the call: as many as there are lanes, or the answer is 10.
 // The records are looked at where they lie, by loops that carry numbers alone, and a call changes the one record that it is about.
 use answers::DONE;
-use bench::LANES;
-use bench::after;
-use bench::orders::close_code;
-use bench::orders::open_code;
-use bench::orders::take_code;
-use bench::orders::turn_code;
+use bench_orders::LANES;
+use bench_orders::close_code;
+use bench_orders::open_code;
+use bench_orders::take_code;
+use bench_orders::turn_code;
+use bench_turns::after;
 use lane::IDLE;
 use lane::Lane;
 use lane::RUNNING;
 use lane::admits;
 use lane::idle_lane;
-use lane::opened;
-use lane::served;
 use lane::sound_lane;
-use lane::yielded;
+use lane_turns::opened;
+use lane_turns::served;
+use lane_turns::yielded;
 ghost use mathlib.Core.Path.{_≡_};
 ghost use Prim.Native.Nat.{_+_, _<_, _^_};
 ghost use lib.ListN.{length, set};
-ghost use Rattle.bench.specs.Turning.{laneCount, laneAt, seek, chosen, turned};
+ghost use Rattle.bench_orders.specs.Orders.{laneCount};
+ghost use Rattle.bench_turns.specs.Turning.{laneAt, seek, chosen, turned};
 ghost use Rattle.bench_lent.specs.Lent.{benchOf, Opens, Serves, Takes, Closes};
 ghost use Rattle.bench_lent.specs.Inner.{Starts, Notes, Sees, Passes, Begins, Goes, renewed};
 

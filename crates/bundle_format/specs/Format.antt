@@ -6,7 +6,7 @@ use lib.Dec.{eqb, leb, ltb}
 use lib.ListN.{length, getD}
 use Rattle.published.specs.Bytes.{toBytes}
 use Rattle.published.specs.Gift128.{encrypted}
-use Rattle.cmac.specs.Standard.{cmac}
+use Rattle.cmac_parts.specs.Standard.{cmac}
 use Rattle.bundle_format.specs.declared.Row.{Row}
 
 -- ---- kinds

@@ -1,3 +1,2 @@
--- Laws of the reader: numbers and entries at a place, the entries that are left at a place, what one entry does.
-pub mod Cutting
+-- The laws behind the reader.
 pub mod Steps

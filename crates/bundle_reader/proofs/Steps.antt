@@ -1,6 +1,6 @@
--- What one entry does to each answer over the table, and the entry at a place.
+-- What one entry does to an answer over the table, the tag, and what looking through a bundle gives.
 use mathlib.Core.Path.{_≡_, refl, sym, ap, ap₂, _∙_}
-use mathlib.Core.Bool.{Bool, true, false, cond, not, _&&_, _||_}
+use mathlib.Core.Bool.{Bool, true, false, cond, _&&_}
 use mathlib.Core.Logic.{_≢_}
 use mathlib.Core.List.{List, _∷_}
 use Prim.Native.Nat.{ℕ, zero, suc, _+_, _-_, _*_, _<_, _≤_}
@@ -14,38 +14,17 @@ use Rattle.answers.proofs.Outcome.{if-done}
 use Rattle.bits.proofs.Truth.{both}
 use Rattle.published.specs.Calls.{blockCode, keyCode}
 use Rattle.published.specs.Gift128.{encrypted}
-use Rattle.cmac.specs.Standard.{cmac}
+use Rattle.cmac_parts.specs.Standard.{cmac}
 use Rattle.cmac.specs.Calls.{same, Checks}
 use Rattle.cmac.proofs.Pieces.{to-end}
-use Rattle.bundle_format.specs.Format.{knows, firstBody, tagOf}
-use Rattle.bundle_format.specs.Reader.{editionOf, countOf, endOf, rowOf, rowsFrom, bodyAt, inPlace, inKind, soundRows, wellFormed, allKnown, readCode, opened, answersFor, ABSENT, bare, tell, tellIn, tellAt}
+use Rattle.bundle_format.specs.Format.{firstBody, tagOf}
+use Rattle.bundle_format.specs.Reader.{countOf, endOf, rowOf, rowsFrom, rightSize, readCode, opened, answersFor, ABSENT, bare, tell, tellIn, tellAt}
 use Rattle.bundle_format.specs.declared.Row.{Row}
 use Rattle.bundle_format.specs.declared.Opened.{Opened}
 use Rattle.bundle_format.proofs.Accepted.{Whole, accepts}
-
--- what a test of an entry told, by an edition that is the bundle's
-pub sound-told : (reader : ℕ) (b : List ℕ) (low at : ℕ) (r : Row) (edition : ℕ) (told : Bool) → edition ≡ editionOf b → told ≡ (inPlace (endOf b) low at r && inKind reader edition (r .kind) (bodyAt b r))
-    → told ≡ (inPlace (endOf b) low at r && inKind reader (editionOf b) (r .kind) (bodyAt b r))
-sound-told reader b low at r edition told own e = e ∙ ap (λ (x : ℕ). inPlace (endOf b) low at r && inKind reader x (r .kind) (bodyAt b r)) own
-
-module _ (reader : ℕ) (b : List ℕ) (low at : ℕ) (r : Row) (rs : List Row) where
-  pub sound-more : inPlace (endOf b) low at r && inKind reader (editionOf b) (r .kind) (bodyAt b r) ≡ true → soundRows reader b low at (r ∷ rs) ≡ soundRows reader b (r .id + 1) (at + r .len) rs
-  unfolding soundRows
-  sound-more e = ap (λ (t : Bool). t && soundRows reader b (r .id + 1) (at + r .len) rs) e
-
-  pub sound-not : inPlace (endOf b) low at r && inKind reader (editionOf b) (r .kind) (bodyAt b r) ≡ false → soundRows reader b low at (r ∷ rs) ≡ false
-  unfolding soundRows
-  sound-not e = ap (λ (t : Bool). t && soundRows reader b (r .id + 1) (at + r .len) rs) e
+use Rattle.bundle_judge.specs.Inner.{judgedCode}
 
 module _ (reader : ℕ) (r : Row) (rs : List Row) where
-  pub known-more : not (eqb (r .must) 1) || knows reader (r .kind) ≡ true → allKnown reader (r ∷ rs) ≡ allKnown reader rs
-  unfolding allKnown
-  known-more e = ap (λ (t : Bool). t && allKnown reader rs) e
-
-  pub known-not : not (eqb (r .must) 1) || knows reader (r .kind) ≡ false → allKnown reader (r ∷ rs) ≡ false
-  unfolding allKnown
-  known-not e = ap (λ (t : Bool). t && allKnown reader rs) e
-
   pub tell-here : (id : ℕ) → r .id ≡ id → tellIn reader id (r ∷ rs) ≡ tell reader r
   unfolding tellIn
   tell-here id e = ap (λ (t : Bool). cond t (tell reader r) (tellIn reader id rs)) (eq-eqb (r .id) id e)
@@ -94,12 +73,10 @@ tag-told key b end size code says keyed least ends sized c =
     done : keyCode (length key) (length (take (size - end) (drop end b))) ≡ 0
     done = ap₂ keyCode keyed sixteen
 
--- the header's numbers, as they were read
-pub formed-by : (reader : ℕ) (b : List ℕ) (edition count : ℕ) → edition ≡ editionOf b → count ≡ countOf b
-    → wellFormed reader b ≡ (leb 1 edition && leb count 256 && leb (firstBody count) (endOf b) && soundRows reader b 0 (firstBody count) (rowsFrom count (drop 8 b)))
-unfolding wellFormed
-formed-by reader b edition count e n =
-    ap₂ (λ (x y : ℕ). leb 1 x && leb y 256 && leb (firstBody y) (endOf b) && soundRows reader b 0 (firstBody y) (rowsFrom y (drop 8 b))) (sym e) (sym n)
+-- a number that comes after the tag
+pub read-after : (reader : ℕ) (key b : List ℕ) (code : ℕ) → length key ≡ 16 → rightSize b ≡ true → same (drop (endOf b) b) (tagOf key (take (endOf b) b)) ≡ true → code ≡ judgedCode reader b → code ≡ readCode reader key b
+unfolding readCode judgedCode
+read-after reader key b code k s t e = rw (eq-eqb (length key) 16 k, s, t) e
 
 -- a table that is within the bytes
 pub answers-fit : (o : Opened) (b : List ℕ) → answersFor o b ≡ true → firstBody (o .count) ≤ length b

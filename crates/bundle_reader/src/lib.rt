@@ -1,13 +1,8 @@
 // A reader of each edition for settings bundles: one id asked for, or a bundle looked through once and then asked again and again.
-mod cut;
-mod judge;
-
 use answers::BAD_BUNDLE_LENGTH;
 use answers::BAD_KEY_LENGTH;
 use answers::BAD_TAG;
 use answers::DONE;
-use answers::MALFORMED;
-use answers::MUST_KNOW;
 use bundle_format::ABSENT;
 use bundle_format::Asked;
 use bundle_format::Opened;
@@ -17,11 +12,10 @@ use bundle_format::Told;
 use bundle_format::UNKNOWN;
 use bundle_format::VALUE;
 use bundle_format::knows_kind;
-use cut::number2;
-use cut::row_at;
-use judge::all_known;
-use judge::right_size;
-use judge::well_formed;
+use bundle_judge::count_of;
+use bundle_judge::judge_code;
+use bundle_judge::right_size;
+use bundle_judge::row_at;
 ghost use mathlib.Core.Path.{_≡_};
 ghost use Prim.Native.Nat.{_+_, _≤_};
 ghost use lib.ListN.{length, take, drop};
@@ -55,14 +49,7 @@ fn read_code(reader: u32, key: &[u8], b: &[u8]) -> u32
     if !right_tag(key, b) {
         return BAD_TAG;
     }
-    if !well_formed(reader, b) {
-        return MALFORMED;
-    }
-    let count = number2(b, 2) as usize;
-    if !all_known(reader, b, count) {
-        return MUST_KNOW;
-    }
-    DONE
+    judge_code(reader, b)
 }
 
 // ---- answers
@@ -138,7 +125,7 @@ fn ask(reader: u32, key: &[u8], bundle: &[u8], id: u32) -> Asked
             told: only(REFUSED, 0),
         };
     }
-    let count = number2(bundle, 2) as usize;
+    let count = count_of(bundle) as usize;
     Asked {
         code,
         told: tell_id(reader, bundle, count, id),
@@ -160,7 +147,7 @@ fn look_through(reader: u32, key: &[u8], bundle: &[u8]) -> Opened
     Opened {
         code: 0,
         reader,
-        count: number2(bundle, 2),
+        count: count_of(bundle),
         size: bundle.len() as u32,
     }
 }

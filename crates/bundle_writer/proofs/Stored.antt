@@ -10,7 +10,7 @@ use borrow.Rule.Slice.PartMut.{putMid, postOf, same-len-mid, mid-len, post-is, d
 use Rattle.bits.specs.Digit.{digit}
 use Rattle.published.specs.Bytes.{toBytes}
 use Rattle.published.specs.Gift128.{encrypted}
-use Rattle.cmac.specs.Standard.{cmac}
+use Rattle.cmac_parts.specs.Standard.{cmac}
 use Rattle.cmac.specs.Calls.{TagsWhole}
 use Rattle.cmac.proofs.Pieces.{tagged}
 use Rattle.bundle_format.specs.Format.{Setting, header, rowBytes, tableOf, placed, totalOf, untagged, tagOf, encode}

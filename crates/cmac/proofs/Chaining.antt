@@ -10,7 +10,7 @@ use lib.Seq.{drop-drop, drop-append-le, take-append-le}
 use borrow.Author.Tests.{ne-eqb}
 use Rattle.published.specs.Gift128.{encrypted}
 use Rattle.published.proofs.Reading.{length-toBytes}
-use Rattle.cmac.specs.Standard.{_⊕_, zeroBlock, blockCount, before, blocks, past, lastBlock, chained, cmac}
+use Rattle.cmac_parts.specs.Standard.{_⊕_, zeroBlock, blockCount, before, blocks, past, lastBlock, chained, cmac}
 
 -- ---- how many blocks are before the last
 

@@ -9,7 +9,7 @@ use borrow.Author.Tests.{eqb-true}
 use Rattle.answers.proofs.Outcome.{if-done}
 use Rattle.published.specs.Calls.{blockCode, keyCode}
 use Rattle.published.specs.Gift128.{encrypted}
-use Rattle.cmac.specs.Standard.{cmac}
+use Rattle.cmac_parts.specs.Standard.{cmac}
 use Rattle.cmac.specs.Calls.{same, Checks}
 use Rattle.cmac.proofs.Strings.{same-refl, same-only, false-not-true}
 use Rattle.cmac.proofs.Chaining.{length-encrypted, length-cmac}

@@ -5,7 +5,7 @@ use Prim.Native.Nat.{ℕ}
 use lib.ListN.{replicate}
 use Rattle.bits.specs.Digit.{digit, bit}
 use Rattle.published.specs.Bytes.{fromBytes, toBytes}
-use Rattle.cmac.specs.Standard.{_⊕_, zeroBlock, R128, shifted, firstBit, subkey, K1, K2, blockCount, blocks, padded, lastBlock, chained, cmac}
+use Rattle.cmac_parts.specs.Standard.{_⊕_, zeroBlock, R128, shifted, firstBit, subkey, K1, K2, blockCount, blocks, padded, lastBlock, chained, cmac}
 
 -- SP 800-38B, D.1: L, K1 and K2 of the example key for AES-128
 abbrev L-of-D1 : List ℕ

@@ -9,7 +9,7 @@ use lib.Dec.{eqb}
 use lib.ListN.{length, take, replicate, length-append}
 use lib.Seq.{length-take-le, take-all}
 use borrow.Author.Tests.{eqb-true}
-use Rattle.cmac.specs.Standard.{_⊕_, zeroBlock, K1, K2, padded, lastBlock}
+use Rattle.cmac_parts.specs.Standard.{_⊕_, zeroBlock, K1, K2, padded, lastBlock}
 use Rattle.cmac.specs.Calls.{kept}
 
 pub length-zeroBlock : length zeroBlock ≡ 16

@@ -1,7 +1,6 @@
--- Worked facts, and laws of the tag: strings, subkeys, the chain, the last block, pieces, checking; and that no call has a second outcome.
+-- Worked facts, and laws of the tag: strings, the chain, the last block, pieces, checking; and that no call has a second outcome.
 pub mod Facts
 pub mod Strings
-pub mod Subkeys
 pub mod Chaining
 pub mod LastBlock
 pub mod Pieces

@@ -9,18 +9,18 @@ use native.Mathlib.Omega.{arith}
 use lib.Dec.{eqb, leb}
 use lib.ListN.{length, take, drop, replicate, length-append, length-drop}
 use lib.Seq.{take-all, take-at, drop-at, drop-drop, drop-append-le, take-append-seam}
-use borrow.Author.Tests.{leb-true, leb-false, le-leb, lt-leb, eqb-true, eq-eqb}
-use Rattle.answers.specs.Numbers.{DONE, BAD_KEY_LENGTH, BAD_BLOCK_LENGTH, BAD_STATE}
+use borrow.Author.Tests.{leb-true, leb-false, le-leb, lt-leb, eq-eqb}
+use Rattle.answers.specs.Numbers.{DONE, BAD_KEY_LENGTH, BAD_STATE}
 use Rattle.answers.specs.Order.{unless, ifDone}
-use Rattle.answers.proofs.Passed.{passed}
 use Rattle.answers.proofs.Outcome.{if-done, if-refused}
 use Rattle.published.specs.Calls.{blockCode, keyCode}
 use Rattle.published.specs.Gift128.{encrypted}
 use Rattle.key_schedule.specs.Expand.{expandCode, expanded}
 use Rattle.gift128.specs.Calls.{encryptedBy}
 use Rattle.gift128.proofs.Blocks.{crossed-key}
-use Rattle.cmac.specs.Standard.{_⊕_, zeroBlock, blockCount, before, blocks, past, lastBlock, chained, cmac}
-use Rattle.cmac.specs.Calls.{pieceCode, tagCode, startedBy, heldBy, kept, fed, tagOf, joined, FedBy, none, more, TagsWhole, Starts, Feeds, TagsState}
+use Rattle.cmac_parts.specs.Standard.{_⊕_, zeroBlock, blockCount, before, blocks, past, lastBlock, chained, cmac}
+use Rattle.cmac_parts.specs.Orders.{pieceCode, tagCode}
+use Rattle.cmac.specs.Calls.{startedBy, heldBy, kept, fed, tagOf, joined, FedBy, none, more, TagsWhole, Starts, Feeds, TagsState}
 use Rattle.cmac.specs.Inner.{Fills}
 use Rattle.cmac.specs.declared.Mac.{Mac}
 use Rattle.cmac.proofs.Chaining.{before-is, blocks-add, blocks-front, chained-append}
@@ -32,31 +32,6 @@ done-after f number x y = go (eqb number 0)
     go : (t : Bool) → f (cond t x y) ≡ cond t (f x) (f y)
     go true = refl
     go false = refl
-
--- what a state that is not refused claims
-pub tag-passed : (count tag : ℕ) → tagCode count tag ≡ 0 → (count ≤ 16) × (tag ≡ 16)
-unfolding tagCode blockCode
-tag-passed count tag e =
-    let p1 = passed (leb count 16) BAD_STATE _ refl e in
-    let p2 = passed (eqb tag 16) BAD_BLOCK_LENGTH DONE refl (p1 .1) in
-    (leb-true count 16 (p1 .0), eqb-true tag 16 (p2 .0))
-
--- the order of a tag is that of a piece, and then the tag's length
-pub tag-refused : (count tag r : ℕ) → r ≡ pieceCode count → r ≢ 0 → r ≡ tagCode count tag
-unfolding pieceCode tagCode
-tag-refused count tag r = go (leb count 16)
-  where
-    go : (t : Bool) → r ≡ unless t BAD_STATE DONE → r ≢ 0 → r ≡ unless t BAD_STATE (blockCode tag)
-    go true e ne = absurd (ne e)
-    go false e ne = e
-
-pub tag-later : (count tag r : ℕ) → pieceCode count ≡ 0 → r ≡ blockCode tag → r ≡ tagCode count tag
-unfolding pieceCode tagCode
-tag-later count tag r z e = e ∙ sym (ap (λ (t : Bool). unless t BAD_STATE (blockCode tag)) (passed (leb count 16) BAD_STATE DONE refl z .0))
-
-pub piece-passed : (count : ℕ) → pieceCode count ≡ 0 → count ≤ 16
-unfolding pieceCode
-piece-passed count e = leb-true count 16 (passed (leb count 16) BAD_STATE DONE refl e .0)
 
 -- ---- what the code leaves
 

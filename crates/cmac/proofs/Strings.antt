@@ -1,10 +1,10 @@
--- Strings of bytes: xored, kept in a block, compared.
+-- Strings of bytes: kept in a block, compared.
 use mathlib.Core.Path.{_≡_, refl, sym, ap, ap₂, _∙_}
 use mathlib.Core.Bool.{Bool, true, false}
 use mathlib.Core.Logic.{⊎-elim}
 use mathlib.Core.List.{List, [], _∷_, _++_, append-assoc}
 use Prim.Native.Nat.{ℕ, zero, suc, _+_, _-_, _*_, _<_, _≤_}
-use native.Mathlib.Nat.{suc-inj, not-suc-le-zero, le-of-suc-le-suc, le-of-eq, eq-or-lt-of-le}
+use native.Mathlib.Nat.{not-suc-le-zero, le-of-suc-le-suc, eq-or-lt-of-le}
 use native.Mathlib.Omega.{arith}
 use lib.Bits.{bitAnd, bitOr, bitXor, xor-self, or-add-and, xor-add-and, and-le-l, and-le-r}
 use lib.Dec.{eqb}
@@ -13,25 +13,8 @@ use lib.Seq.{length-take-le, take-at, getD-append-add, ext-getD}
 use borrow.Author.Tests.{eq-eqb, eqb-true, eqb-false}
 use Rattle.bits.proofs.Truth.{both, together}
 use Rattle.bits.proofs.Filling.{written}
-use Rattle.cmac.specs.Standard.{_⊕_}
 use Rattle.cmac.specs.Calls.{kept, same}
 use Rattle.cmac.specs.Inner.{difference}
-
--- ---- xored
-
-pub length-⊕ : (xs ys : List ℕ) → length xs ≡ length ys → length (xs ⊕ ys) ≡ length xs
-unfolding _⊕_
-length-⊕ [] ys e = refl
-length-⊕ (x ∷ xs) [] e = sym e
-length-⊕ (x ∷ xs) (y ∷ ys) e = ap suc (length-⊕ xs ys (suc-inj e))
-
-pub getD-⊕ : (xs ys : List ℕ) (i : ℕ) → length xs ≡ length ys → getD (xs ⊕ ys) i 0 ≡ bitXor (getD xs i 0) (getD ys i 0)
-unfolding _⊕_
-getD-⊕ [] [] i e = refl
-getD-⊕ [] (y ∷ ys) i e = absurd (not-suc-le-zero (le-of-eq (sym e)))
-getD-⊕ (x ∷ xs) [] i e = absurd (not-suc-le-zero (le-of-eq e))
-getD-⊕ (x ∷ xs) (y ∷ ys) zero e = refl
-getD-⊕ (x ∷ xs) (y ∷ ys) (suc i) e = getD-⊕ xs ys i (suc-inj e)
 
 -- ---- kept in a block
 

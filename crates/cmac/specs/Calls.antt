@@ -1,28 +1,17 @@
--- What each call promises: its number, by its refusals in the order given, and what it leaves.
+-- What each call promises: its number, by its refusals in the order given (of a whole message and a check 1, 2, `keyCode`, of a start 1, `expandCode` of the eighty words that it keeps), and what it leaves.
 use mathlib.Core.Bool.{Bool, true, false, _&&_}
 use mathlib.Core.List.{List, [], _∷_, _++_}
 use Prim.Native.Nat.{ℕ, _-_}
-use lib.Dec.{eqb, leb}
+use lib.Dec.{eqb}
 use lib.ListN.{length, take, replicate}
-use Rattle.answers.specs.Numbers.{DONE, BAD_STATE}
-use Rattle.answers.specs.Order.{unless}
 use Rattle.answers.specs.Outcome.{Gives}
-use Rattle.published.specs.Calls.{blockCode, keyCode}
+use Rattle.published.specs.Calls.{keyCode}
 use Rattle.published.specs.Gift128.{encrypted}
 use Rattle.key_schedule.specs.Expand.{expandCode, expanded}
 use Rattle.gift128.specs.Calls.{encryptedBy}
-use Rattle.cmac.specs.Standard.{zeroBlock, before, blocks, past, lastBlock, chained, cmac}
+use Rattle.cmac_parts.specs.Standard.{zeroBlock, before, blocks, past, lastBlock, chained, cmac}
+use Rattle.cmac_parts.specs.Orders.{pieceCode, tagCode}
 use Rattle.cmac.specs.declared.Mac.{Mac}
-
--- ---- the numbers: of a whole message and a check 1, 2 (`keyCode`), of a start 1 (`expandCode`, of the eighty words that it keeps)
-
--- a piece: 10 if the state claims more than sixteen held bytes
-unfoldable pub pieceCode : (count : ℕ) → ℕ
-pieceCode count = unless (leb count 16) BAD_STATE DONE
-
--- the tag of a state: 10, 2
-unfoldable pub tagCode : (count tag : ℕ) → ℕ
-tagCode count tag = unless (leb count 16) BAD_STATE (blockCode tag)
 
 -- ---- states
 

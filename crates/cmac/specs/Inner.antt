@@ -1,17 +1,12 @@
--- Inner: a block shifted byte by byte, two strings told apart by one number, and what feeding leaves.
+-- Inner: two strings told apart by one number, and what feeding leaves.
 use mathlib.Core.Path.{_≡_}
-use mathlib.Core.List.{List, [], _∷_}
-use Prim.Native.Nat.{ℕ, zero, suc, _+_, _*_, _/_, _%_}
+use mathlib.Core.List.{List}
+use Prim.Native.Nat.{ℕ, zero, suc}
 use lib.Bits.{bitOr, bitXor}
 use lib.ListN.{length, getD}
 use Rattle.gift128.specs.Calls.{encryptedBy}
-use Rattle.cmac.specs.Standard.{before, blocks, past, chained}
+use Rattle.cmac_parts.specs.Standard.{before, blocks, past, chained}
 use Rattle.cmac.specs.Calls.{kept}
-
--- each byte one place up, with the first bit of the next
-unfoldable pub shiftedBytes : List ℕ → List ℕ
-shiftedBytes [] = []
-shiftedBytes (b ∷ bs) = (b % 128 * 2 + getD bs 0 0 / 128) ∷ shiftedBytes bs
 
 -- the bits in which the first n bytes differ, all in one byte
 unfoldable pub difference : ℕ → List ℕ → List ℕ → ℕ

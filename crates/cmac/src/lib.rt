@@ -1,22 +1,22 @@
 // CMAC of NIST SP 800-38B over GIFT-128: the tag of a whole message, a tag checked, and a message fed in pieces to a state that the caller keeps.
-mod orders;
-
 use answers::DONE;
+use cmac_parts::byte_at;
+use cmac_parts::double;
+use cmac_parts::key_code;
+use cmac_parts::piece_code;
+use cmac_parts::tag_code;
 use gift128::Gift128;
 use gift128::encrypt_by_words;
-use orders::key_code;
-use orders::piece_code;
-use orders::tag_code;
 use packing::NUMBER;
 ghost use mathlib.Core.Path.{_≡_};
 ghost use mathlib.Core.Bool.{cond};
 ghost use mathlib.Core.List.{_++_};
 ghost use Prim.Native.Nat.{_+_, _*_, _≤_};
 ghost use lib.Dec.{eqb};
-ghost use lib.ListN.{length, take, getD};
+ghost use lib.ListN.{length, take};
 ghost use denote.Ref.{now};
 ghost use Rattle.gift128.specs.Calls.{encryptedBy};
-ghost use Rattle.cmac.specs.Standard.{_⊕_, zeroBlock, shifted, subkey, K1, K2, before, blocks, padded, lastBlock, chained};
+ghost use Rattle.cmac_parts.specs.Standard.{_⊕_, zeroBlock, K1, K2, before, blocks, padded, lastBlock, chained};
 ghost use Rattle.cmac.specs.Calls.{kept, same, TagsWhole, Checks, Starts, Feeds, TagsState};
 ghost use Rattle.cmac.specs.Inner.{Fills};
 
@@ -56,16 +56,6 @@ pub struct Checked {
 
 // ---- blocks
 
-// The byte at a place, and 0 past the end.
-fn byte_at(bytes: &[u8], i: usize) -> u8
-    ensures { λ r. ⌜ r ≡ getD (now (bytes .entry)) i 0 ⌝ }
-{
-    if i < bytes.len() {
-        return bytes[i];
-    }
-    0
-}
-
 // Bytes put into a block from a place on, and zeros after them.
 fn hold(block: &mut [u8], from: usize, bytes: &[u8])
     requires { ⌜ length (now block) ≡ 16 ⌝ }
@@ -89,29 +79,6 @@ fn mix(block: &mut [u8], other: &[u8])
         block[i] = block[i] ^ other[i];
         i += 1;
     }
-}
-
-// All bits one place up.
-fn shift(block: &mut [u8])
-    requires { ⌜ length (now block) ≡ 16 ⌝ }
-    ensures { λ r. ⌜ now (block .exit) ≡ shifted (now (block .entry)) ⌝ }
-{
-    let mut i: usize = 0;
-    while i < 16 {
-        let next = byte_at(block, i + 1);
-        block[i] = block[i] % 128 * 2 + next / 128;
-        i += 1;
-    }
-}
-
-// K1 from L, and K2 from K1.
-fn double(block: &mut [u8])
-    requires { ⌜ length (now block) ≡ 16 ⌝ }
-    ensures { λ r. ⌜ now (block .exit) ≡ subkey (now (block .entry)) ⌝ }
-{
-    let first = block[0] / 128;
-    shift(block);
-    block[15] = block[15] ^ (first * 135);
 }
 
 // ---- chaining

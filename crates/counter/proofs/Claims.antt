@@ -16,14 +16,15 @@ use Rattle.published.proofs.Reading.{from-to}
 use Rattle.key_schedule.specs.Expand.{expanded}
 use Rattle.gift128.specs.Calls.{encryptedBy}
 use Rattle.gift128.proofs.Blocks.{crossed-key}
+use Rattle.counter_orders.specs.Orders.{counters, needed, left, enough, pieceCode}
+use Rattle.counter_orders.proofs.Passing.{piece-passed, piece-short}
 use Rattle.counter.specs.declared.Stream.{Stream}
 use Rattle.counter.specs.Standard.{_⊕_, counterBlock, keyBlocks, counterMode}
-use Rattle.counter.specs.Steps.{counters, zeroBlock, keyByte, keyBytes, after}
-use Rattle.counter.specs.Calls.{needed, left, enough, pieceCode, codeOf, startedBy, Left, fed, Starts, Feeds}
+use Rattle.counter.specs.Steps.{zeroBlock, keyByte, keyBytes, after}
+use Rattle.counter.specs.Calls.{codeOf, startedBy, Left, fed, Starts, Feeds}
 use Rattle.counter.specs.Pieces.{Accepted}
 use Rattle.counter.proofs.Strings.{length-⊕, ⊕-longer, ⊕-again}
 use Rattle.counter.proofs.Jumping.{mk, length-bytes, skip-bytes, skip-unspent, new-bytes, byte-at}
-use Rattle.counter.proofs.Passing.{piece-passed, piece-short}
 use Rattle.counter.proofs.Leaving.{fits-left}
 
 -- ---- the standard's counter mode

@@ -9,14 +9,15 @@ use lib.Dec.{eqb}
 use lib.ListN.{length, length-append}
 use borrow.Author.Tests.{eq-eqb, eqb-true, eqb-false, le-leb}
 use Rattle.bits.proofs.Computed.{cond-true}
+use Rattle.counter_orders.specs.Orders.{counters, needed, left, enough, pieceCode}
+use Rattle.counter_orders.proofs.Passing.{piece-passed}
 use Rattle.counter.specs.declared.Stream.{Stream}
 use Rattle.counter.specs.Standard.{_⊕_}
-use Rattle.counter.specs.Steps.{counters, refilled, ready, used, next, keyBytes, after}
-use Rattle.counter.specs.Calls.{needed, left, enough, pieceCode, Left, fed}
+use Rattle.counter.specs.Steps.{refilled, ready, used, next, keyBytes, after}
+use Rattle.counter.specs.Calls.{Left, fed}
 use Rattle.counter.specs.Pieces.{Accepted, room, whole, AllAccepted, fedAll}
 use Rattle.counter.proofs.Strings.{split-⊕}
 use Rattle.counter.proofs.Jumping.{after-add, bytes-add, length-bytes}
-use Rattle.counter.proofs.Passing.{piece-passed}
 
 -- ---- how many bytes a stream can still give
 

@@ -11,10 +11,10 @@ use lib.Seq.{take-all, take-at, drop-cons}
 use borrow.Author.Tests.{eq-eqb, ne-eqb, eqb-true, eqb-false, leb-true, leb-false}
 use Rattle.bits.proofs.Computed.{cond-true, cond-false}
 use Rattle.gift128.specs.Calls.{encryptedBy}
+use Rattle.counter_orders.specs.Orders.{counters, needed}
 use Rattle.counter.specs.declared.Stream.{Stream}
 use Rattle.counter.specs.Standard.{counterBlock, keyBlocks}
-use Rattle.counter.specs.Steps.{counters, zeroBlock, refilled, ready, used, keyByte, next, keyBytes, after}
-use Rattle.counter.specs.Calls.{needed}
+use Rattle.counter.specs.Steps.{zeroBlock, refilled, ready, used, keyByte, next, keyBytes, after}
 use Rattle.counter.specs.Inner.{newBytes, newBlock, bytesFrom, blockFrom}
 use Rattle.counter.proofs.Blocks.{length-encrypted}
 

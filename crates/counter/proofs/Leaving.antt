@@ -12,11 +12,12 @@ use borrow.Author.Tests.{eq-eqb, ne-eqb, eqb-true, eqb-false, le-leb, lt-leb}
 use borrow.Rule.Slice.PartMut.{putMid, postOf}
 use Rattle.bits.proofs.Computed.{cond-true, cond-false}
 use Rattle.gift128.specs.Calls.{encryptedBy}
+use Rattle.counter_orders.specs.Orders.{counters, needed, left}
 use Rattle.counter.specs.declared.Stream.{Stream}
 use Rattle.counter.specs.declared.Place.{Place}
 use Rattle.counter.specs.Standard.{_⊕_, keyBlocks}
-use Rattle.counter.specs.Steps.{counters, zeroBlock, after}
-use Rattle.counter.specs.Calls.{needed, left, Left, fed}
+use Rattle.counter.specs.Steps.{zeroBlock, after}
+use Rattle.counter.specs.Calls.{Left, fed}
 use Rattle.counter.specs.Inner.{newBytes, newBlock, moved, LastBytes, NewBytes, MoreBytes, KeyBytes}
 use Rattle.counter.proofs.Blocks.{blocks-more, length-blocks}
 use Rattle.counter.proofs.Jumping.{E, jump-bytes, jump-state}

@@ -1,44 +1,15 @@
 -- What each call promises: its number, by its refusals in document 02's order, and what it leaves.
-use mathlib.Core.Bool.{Bool, cond}
 use mathlib.Core.List.{List}
-use Prim.Native.Nat.{ℕ, _+_, _-_, _/_}
-use lib.Dec.{eqb, leb}
+use Prim.Native.Nat.{ℕ}
 use lib.ListN.{length, replicate}
-use Rattle.answers.specs.Numbers.{DONE, BAD_KEY_LENGTH, BAD_BLOCK_LENGTH, BAD_OUTPUT_LENGTH, BAD_STATE, TOO_FEW_COUNTERS}
-use Rattle.answers.specs.Order.{unless}
 use Rattle.answers.specs.Outcome.{Gives}
 use Rattle.key_schedule.specs.Expand.{expanded}
+use Rattle.counter_orders.specs.Orders.{startCode, pieceCode}
 use Rattle.counter.specs.declared.Stream.{Stream}
 use Rattle.counter.specs.Standard.{_⊕_}
-use Rattle.counter.specs.Steps.{counters, zeroBlock, keyBytes, after}
+use Rattle.counter.specs.Steps.{zeroBlock, keyBytes, after}
 
--- ---- the numbers
-
--- starting: 1, 2
-unfoldable pub startCode : (key nonce : ℕ) → ℕ
-startCode key nonce =
-    unless (eqb key 16) BAD_KEY_LENGTH
-    (unless (eqb nonce 12) BAD_BLOCK_LENGTH
-    DONE)
-
--- Exactly when 12: the new blocks that n bytes need after the unused ones, none where these are enough, are more than the counters left.
-abbrev pub needed : (unused n : ℕ) → ℕ
-needed unused n = (n - unused + 15) / 16
-
-abbrev pub left : (counter spent : ℕ) → ℕ
-left counter spent = cond (eqb spent 0) (counters - counter) 0
-
-unfoldable pub enough : (counter unused spent n : ℕ) → Bool
-enough counter unused spent n = leb (needed unused n) (left counter spent)
-
--- a piece: 10, 3, 12
-unfoldable pub pieceCode : (counter unused spent input output : ℕ) → ℕ
-pieceCode counter unused spent input output =
-    unless (leb unused 15) BAD_STATE
-    (unless (eqb output input) BAD_OUTPUT_LENGTH
-    (unless (enough counter unused spent input) TOO_FEW_COUNTERS
-    DONE))
-
+-- the number of a piece, by its stream
 abbrev pub codeOf : Stream → (input output : ℕ) → ℕ
 codeOf s = pieceCode (s .counter) (s .unused) (s .spent)
 

@@ -6,10 +6,9 @@ use Prim.Native.Nat.{ℕ, _+_, _-_, _*_, _/_, _%_}
 use lib.Dec.{eqb, leb}
 use lib.ListN.{take, drop}
 use Rattle.gift128.specs.Calls.{encryptedBy}
+use Rattle.counter_orders.specs.Orders.{counters, needed}
 use Rattle.counter.specs.declared.Place.{Place}
 use Rattle.counter.specs.Standard.{counterBlock, keyBlocks}
-use Rattle.counter.specs.Steps.{counters}
-use Rattle.counter.specs.Calls.{needed}
 
 -- n bytes of new blocks, from the counter c on
 abbrev pub newBytes : (words nonce : List ℕ) (c n : ℕ) → List ℕ

@@ -3,8 +3,9 @@ use mathlib.Core.Path.{_≡_}
 use mathlib.Core.List.{List, [], _∷_, _++_}
 use Prim.Native.Nat.{ℕ, _+_, _*_}
 use lib.ListN.{length}
+use Rattle.counter_orders.specs.Orders.{left}
 use Rattle.counter.specs.declared.Stream.{Stream}
-use Rattle.counter.specs.Calls.{left, codeOf, Left, fed}
+use Rattle.counter.specs.Calls.{codeOf, Left, fed}
 
 -- a piece of n bytes is done, to an output of n bytes
 abbrev pub Accepted : Stream → ℕ → Type 0

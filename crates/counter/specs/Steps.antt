@@ -1,16 +1,13 @@
 -- A stream, byte by byte: the one definition of what it gives and where it then stands. Every eighty words, made from a key or not, are a cipher.
 use mathlib.Core.Bool.{cond}
 use mathlib.Core.List.{List, [], _∷_}
-use Prim.Native.Nat.{ℕ, zero, suc, _-_, _%_, _^_}
+use Prim.Native.Nat.{ℕ, zero, suc, _-_, _%_}
 use lib.Dec.{eqb}
 use lib.ListN.{getD, replicate}
 use Rattle.gift128.specs.Calls.{encryptedBy}
+use Rattle.counter_orders.specs.Orders.{counters}
 use Rattle.counter.specs.declared.Stream.{Stream}
 use Rattle.counter.specs.Standard.{counterBlock}
-
--- how many counters there are
-abbrev pub counters : ℕ
-counters = 2 ^ 32
 
 abbrev pub zeroBlock : List ℕ
 zeroBlock = replicate 16 0

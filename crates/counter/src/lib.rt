@@ -1,13 +1,11 @@
 // Counter mode of NIST SP 800-38A over GIFT-128, fed in pieces of any length to a stream that the caller keeps.
-mod orders;
-
 use answers::DONE;
+use counter_orders::blocks_needed;
+use counter_orders::piece_code;
+use counter_orders::start_code;
 use gift128::encrypt_blocks_by_words;
 use gift128::encrypt_by_words;
 use key_schedule::precompute_rkeys;
-use orders::blocks_needed;
-use orders::piece_code;
-use orders::start_code;
 use packing::NUMBER;
 ghost use mathlib.Core.Path.{_≡_};
 ghost use mathlib.Core.Bool.{cond};
@@ -17,9 +15,10 @@ ghost use lib.ListN.{length};
 ghost use denote.Ref.{now};
 ghost use Rattle.published.specs.Bytes.{toBytes};
 ghost use Rattle.gift128.specs.Calls.{encryptedBy};
+ghost use Rattle.counter_orders.specs.Orders.{counters, needed};
 ghost use Rattle.counter.specs.Standard.{_⊕_, counterBlock, keyBlocks};
-ghost use Rattle.counter.specs.Steps.{counters, zeroBlock};
-ghost use Rattle.counter.specs.Calls.{needed, Starts, Feeds};
+ghost use Rattle.counter.specs.Steps.{zeroBlock};
+ghost use Rattle.counter.specs.Calls.{Starts, Feeds};
 ghost use Rattle.counter.specs.Inner.{LastBytes, NewBytes, MoreBytes, KeyBytes, moved};
 
 // What is kept between pieces: the cipher's round words, the caller's twelve bytes, the next counter, the block of the key stream that was made

@@ -1,14 +1,11 @@
--- A lane's record: what makes it sound, whom it admits, and what an opening, a turn of its own, yielding and going idle make of it.
-use mathlib.Core.Bool.{Bool, true, false, cond, not, _&&_, _||_}
+-- A lane's record: the idle one, what makes it sound, and whom it admits.
+use mathlib.Core.Bool.{Bool, true, false, not, _&&_, _||_}
 use mathlib.Core.List.{List, [], _∷_}
-use Prim.Native.Nat.{ℕ, zero, suc, _+_, _-_, _*_}
-use lib.Dec.{eqb, leb, ltb}
-use lib.ListN.{drop, replicate}
+use Prim.Native.Nat.{ℕ, zero, suc}
+use lib.Dec.{eqb, leb}
+use lib.ListN.{replicate}
 use Rattle.published.specs.Seen.{isOrder}
-use Rattle.primitives.specs.declared.State.{State}
-use Rattle.packing.specs.Packing.{noWords, packed, unpacked}
-use Rattle.quintuple.specs.Quintuple.{quintupled, unquintupled}
-use Rattle.gift128.specs.Calls.{newWords}
+use Rattle.packing.specs.Packing.{noWords}
 use Rattle.lane.specs.declared.Lane.{Lane}
 
 abbrev pub idle : ℕ
@@ -46,38 +43,3 @@ soundLane l = allZero (everything l) || not (eqb (l .owner) 0) && leb (l .direct
 -- An idle lane is open to anyone, a busy one to its owner.
 unfoldable pub admits : Lane → (caller : ℕ) → Bool
 admits l caller = eqb (l .phase) idle || eqb (l .owner) caller
-
--- Opening: the owner's, the key expanded, the block packed as the order has it.
-unfoldable pub opened : (owner direction order : ℕ) (key block : List ℕ) → Lane
-opened owner direction order key block =
-    record { phase = running; direction = direction; owner = owner; count = 0; order = order; words = newWords key; state = packed order block }
-
--- One quintuple round more: forward at offset 5·count, or back at offset 35 − 5·count, over the words that start at twice the offset.
-unfoldable pub advanced : Lane → State
-advanced l =
-    cond (eqb (l .direction) 0)
-    (quintupled (l .state) (drop (2 * (5 * l .count)) (l .words)) (5 * l .count))
-    (unquintupled (l .state) (drop (2 * (35 - 5 * l .count)) (l .words)) (35 - 5 * l .count))
-
--- A turn of its own: the count rises by 1, and at 8 the lane is finished. (A count of 8 or more has no quintuple round left.)
-unfoldable pub served : Lane → Lane
-served l =
-    cond (ltb (l .count) 8)
-    (record {
-      phase = cond (eqb (l .count + 1) 8) finished running;
-      direction = l .direction;
-      owner = l .owner;
-      count = l .count + 1;
-      order = l .order;
-      words = l .words;
-      state = advanced l;
-    })
-    l
-
--- the turns that a lane still lacks: 8 less its count if it runs
-unfoldable pub lacks : Lane → ℕ
-lacks l = cond (eqb (l .phase) running) (8 - l .count) 0
-
--- Yielding: what a lent buffer holds afterwards, the bytes of the lane's block in its own order.
-unfoldable pub yielded : Lane → List ℕ → List ℕ
-yielded l out = unpacked (l .order) (l .state) out

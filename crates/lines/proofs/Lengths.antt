@@ -11,13 +11,13 @@ use Rattle.published.specs.Bytes.{toBytes}
 use Rattle.published.specs.Gift128.{encrypted, decrypted}
 use Rattle.published.proofs.Reading.{length-toBytes}
 use Rattle.gift128.specs.Calls.{afterOne}
-use Rattle.lines.specs.declared.Reader.{Reader}
 use Rattle.text.specs.Hex.{hexOf}
 use Rattle.text.specs.Decimal.{decimalOf}
-use Rattle.lines.specs.Line.{isGood, wordsText, packedText, response, badLine, answerOf}
+use Rattle.text.proofs.Lengths.{length-hexOf, number-length}
+use Rattle.line_answers.specs.Line.{isGood, wordsText, packedText, response, badLine, answerOf}
+use Rattle.lines.specs.declared.Reader.{Reader}
 use Rattle.lines.specs.Input.{answerLine, doneLine}
 use Rattle.lines.specs.Session.{nextLine, held, closingOf}
-use Rattle.text.proofs.Lengths.{length-hexOf, number-length}
 
 either : (k : ℕ) (b : Bool) (x y : List ℕ) → length x ≤ k → length y ≤ k → length (cond b x y) ≤ k
 either k true x y hx hy = hx

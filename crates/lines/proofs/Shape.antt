@@ -11,11 +11,11 @@ use lib.Seq.{take-at, take-all, getD-at, drop-cons, drop-append-add}
 use borrow.Author.Tests.{lt-ltb, eqb-true}
 use Rattle.published.specs.Bytes.{Bytes}
 use Rattle.text.specs.Hex.{hexDigits, placeOf, valueOf, allHex, bytesOf, hexOf}
-use Rattle.lines.specs.Line.{isLetter, isGood, keyText, blockText, lineOf, response, answerOf}
-use Rattle.lines.proofs.Numerals.{both, hex-at}
-use Rattle.lines.proofs.Good.{good, length-part}
 use Rattle.text.proofs.Numerals.{value-digit}
 use Rattle.text.proofs.Lengths.{length-hexOf}
+use Rattle.line_answers.specs.Line.{isLetter, isGood, keyText, blockText, lineOf, response, answerOf}
+use Rattle.line_answers.proofs.Numerals.{both, hex-at}
+use Rattle.line_answers.proofs.Good.{good, length-part}
 
 -- ---- digits read and written
 

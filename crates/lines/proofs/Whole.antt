@@ -11,12 +11,12 @@ use lib.ListN.{length, take, set, length-take, length-set, length-append}
 use lib.Seq.{take-all, take-append-le, take-suc-set}
 use borrow.Author.Tests.{leb-true, leb-false, ltb-true, ltb-false, eq-eqb, ne-eqb, lt-ltb}
 use Rattle.bits.proofs.Computed.{cond-true, cond-false}
-use Rattle.lines.specs.declared.Reader.{Reader}
-use Rattle.lines.specs.Line.{isGood, badLine, answerOf}
-use Rattle.lines.specs.Input.{linesFrom, answerLine, answers, firstLine, doneLine, outputOf}
 use Rattle.text.specs.Written.{written, shown}
-use Rattle.lines.specs.Session.{freshReader, nextLine, held, kept, ended, fedBy, closingOf, writtenFrom, writtenOf}
 use Rattle.text.proofs.Texts.{written-fits, shown-written}
+use Rattle.line_answers.specs.Line.{isGood, badLine, answerOf}
+use Rattle.lines.specs.declared.Reader.{Reader}
+use Rattle.lines.specs.Input.{linesFrom, answerLine, answers, firstLine, doneLine, outputOf}
+use Rattle.lines.specs.Session.{freshReader, nextLine, held, kept, ended, fedBy, closingOf, writtenFrom, writtenOf}
 use Rattle.lines.proofs.Lengths.{answer-line-length, closing-length}
 
 -- a line of another length than 67 is bad, and so a line cut at 68 bytes is answered as the whole line

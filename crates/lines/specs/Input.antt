@@ -5,7 +5,7 @@ use Prim.Native.Nat.{ℕ, suc}
 use lib.Dec.{eqb}
 use lib.ListN.{length}
 use Rattle.text.specs.Decimal.{decimalOf}
-use Rattle.lines.specs.Line.{answerOf}
+use Rattle.line_answers.specs.Line.{answerOf}
 
 -- The lines of an input, of which one may have begun: each ends at a newline, byte 10; a last one without newline counts if not empty.
 unfoldable pub linesFrom : List ℕ → List ℕ → List (List ℕ)

@@ -13,7 +13,8 @@ use Rattle.bits.proofs.Digits.{digit-digit, digit-lt, number-cong, number-digit
 use Rattle.published.specs.Bytes.{fromBytes, toBytes, Bytes}
 use Rattle.published.proofs.Reading.{digit-fromBytes, length-toBytes}
 use Rattle.published.proofs.Gift128.{block-lt}
-use Rattle.plain.specs.Inner.{stateOf, nibblesOf, keyOf}
+use Rattle.plain_key.specs.Inner.{keyOf}
+use Rattle.plain.specs.Inner.{stateOf, nibblesOf}
 use Rattle.plain.proofs.Nibbles.{nibbles-are, digit-stateOf}
 
 -- ---- two digits are one to the base's square: two nibbles a byte, two bytes a word of the key

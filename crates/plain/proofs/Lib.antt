@@ -4,6 +4,5 @@ pub mod Tables
 pub mod Moving
 pub mod Flips
 pub mod Adding
-pub mod Keys
 pub mod Bytes
 pub mod Rounds

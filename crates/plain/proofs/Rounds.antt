@@ -16,7 +16,8 @@ use Rattle.published.specs.Key.{update, pairs}
 use Rattle.published.proofs.Reading.{fromBytes-lt}
 use Rattle.published.proofs.Steps.{width, entry-lt, subCells-lt, permBits-lt, unPermBits-lt, xored-lt}
 use Rattle.published.proofs.Undone.{unround-is, rounds-lt, unrounds-lt}
-use Rattle.plain.specs.Inner.{stateOf, nibblesOf, by, Nibbles, countOf, placeOf, uvOf, roundsBy}
+use Rattle.plain_key.specs.Inner.{countOf, placeOf, uvOf}
+use Rattle.plain.specs.Inner.{stateOf, nibblesOf, by, Nibbles, roundsBy}
 use Rattle.plain.proofs.Nibbles.{stateOf-lt, stateOf-nibblesOf, nibblesOf-stateOf, by-by, width-of}
 
 -- ---- one round

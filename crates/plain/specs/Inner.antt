@@ -1,6 +1,6 @@
--- Inner: a state lent as its nibbles, nibble i at place i; the number that they make, and what a step of the cipher makes of them. And a key state of eight words.
+-- Inner: a state lent as its nibbles, nibble i at place i; the number that they make, and what a step of the cipher makes of them.
 use mathlib.Core.Path.{_≡_}
-use mathlib.Core.Bool.{Bool, true, false, cond, _&&_}
+use mathlib.Core.Bool.{Bool, true, false, _&&_}
 use mathlib.Core.List.{List, [], _∷_}
 use Prim.Native.Nat.{ℕ, zero, suc, _-_, _*_, _/_, _%_, _≤_, _<_}
 use lib.Dec.{eqb}
@@ -8,8 +8,7 @@ use lib.ListN.{length, getD}
 use Rattle.bits.specs.Digit.{digit, number}
 use Rattle.published.specs.Rounds.{Pair, rounds, unrounds}
 use Rattle.published.specs.Key.{pairs}
-use Rattle.published.specs.Gift128.{pairOf}
-use Rattle.published.specs.Gift64.{pairOf64}
+use Rattle.plain_key.specs.Inner.{countOf, placeOf, uvOf}
 
 unfoldable pub stateOf : List ℕ → ℕ
 stateOf ns = number 16 (length ns) (λ i. getD ns i 0)
@@ -34,23 +33,8 @@ pub record Nibbles (ns : List ℕ) : Type 0 where
 abbrev pub oneAt : ℕ → ℕ → ℕ → Bool
 oneAt q b p = eqb p q && eqb b 1
 
--- the key state that eight words of 16 bits make, ki at place i
-abbrev pub keyOf : List ℕ → ℕ
-keyOf k = number 65536 8 (λ i. getD k i 0)
-
 abbrev pub pair : (u v : ℕ) → Pair
 pair u v = record { u = u; v = v }
-
--- ---- what the members differ in, by the number of nibbles: GIFT-64 has sixteen, and every other number is taken for GIFT-128
-
-abbrev pub countOf : ℕ → ℕ
-countOf n = cond (eqb n 16) 28 40
-
-abbrev pub placeOf : ℕ → ℕ
-placeOf n = cond (eqb n 16) 0 1
-
-abbrev pub uvOf : ℕ → ℕ → Pair
-uvOf n key = cond (eqb n 16) (pairOf64 key) (pairOf key)
 
 -- the rounds that follow r of them, by the key state that is there then; and the same undone
 abbrev pub roundsFrom : (nibbles key r : ℕ) → ℕ → ℕ

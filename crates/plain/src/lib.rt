@@ -1,13 +1,18 @@
 // The plain engine: GIFT as documents 01 and 02 write it, to be read beside them. Nothing of the sliced engines is used.
 mod steps;
 
-use answers::BAD_BLOCK_LENGTH;
-use answers::BAD_KEY_LENGTH;
 use answers::DONE;
+use plain_key::SMALL;
+use plain_key::key_code;
+use plain_key::key_code_64;
+use plain_key::rounds_of;
+use plain_key::u_of;
+use plain_key::update_key;
+use plain_key::v_of;
+use plain_key::v_place;
 use steps::round;
 use steps::step_constant;
 use steps::unround;
-use steps::update_key;
 ghost use mathlib.Core.Path.{_≡_};
 ghost use mathlib.Core.Bool.{true, false};
 ghost use Prim.Native.Nat.{_*_, _%_, _≤_};
@@ -15,45 +20,10 @@ ghost use lib.ListN.{length};
 ghost use denote.Ref.{now};
 ghost use Rattle.published.specs.Bytes.{fromBytes, toBytes};
 ghost use Rattle.published.specs.Rounds.{constant};
-ghost use Rattle.published.specs.Calls.{keyCode, CiphersByKey};
-ghost use Rattle.published.specs.Calls64.{keyCode64, CiphersByKey64};
-ghost use Rattle.plain.specs.Inner.{stateOf, nibblesOf, Nibbles, keyOf, countOf, placeOf, uvOf, roundsFrom, unroundsFrom, roundsBy};
-
-// ---- what the members differ in, by the number of nibbles: GIFT-64 has sixteen, GIFT-128 thirty-two
-
-const SMALL: usize = 16;
-
-fn rounds_of(n: usize) -> usize
-    ensures { λ r. ⌜ r ≡ countOf n ⌝ }
-{
-    if n == SMALL { 28 } else { 40 }
-}
-
-// Where V's bits go in each nibble; U's go to the next place.
-fn v_place(n: usize) -> usize
-    ensures { λ r. ⌜ r ≡ placeOf n ⌝ }
-{
-    if n == SMALL { 0 } else { 1 }
-}
-
-// 3. U = k5 ‖ k4 and V = k1 ‖ k0; in GIFT-64 U = k1 and V = k0.
-fn u_of(k: [u16; 8], n: usize) -> u32
-    ensures { λ r. ⌜ r ≡ uvOf n (keyOf k) .u ⌝ }
-{
-    if n == SMALL {
-        return k[1] as u32;
-    }
-    k[5] as u32 * 65536 + k[4] as u32
-}
-
-fn v_of(k: [u16; 8], n: usize) -> u32
-    ensures { λ r. ⌜ r ≡ uvOf n (keyOf k) .v ⌝ }
-{
-    if n == SMALL {
-        return k[0] as u32;
-    }
-    k[1] as u32 * 65536 + k[0] as u32
-}
+ghost use Rattle.published.specs.Calls.{CiphersByKey};
+ghost use Rattle.published.specs.Calls64.{CiphersByKey64};
+ghost use Rattle.plain_key.specs.Inner.{keyOf, countOf};
+ghost use Rattle.plain.specs.Inner.{stateOf, nibblesOf, Nibbles, roundsFrom, unroundsFrom, roundsBy};
 
 // ---- the rounds
 
@@ -146,18 +116,6 @@ fn cross(s: &mut [u8], key: &[u8], block: &mut [u8], back: bool)
 
 // ---- the calls: refusals 1, 2
 
-fn key_code(key: usize, block: usize) -> u32
-    ensures { λ r. ⌜ r ≡ keyCode key block ⌝ }
-{
-    if key != 16 {
-        return BAD_KEY_LENGTH;
-    }
-    if block != 16 {
-        return BAD_BLOCK_LENGTH;
-    }
-    DONE
-}
-
 pub fn encrypt_by_key(key: &[u8], block: &mut [u8]) -> u32
     ensures { λ r. ⌜ CiphersByKey false (now (key .entry)) (now (block .entry)) r (now (block .exit)) ⌝ }
 {
@@ -183,18 +141,6 @@ pub fn decrypt_by_key(key: &[u8], block: &mut [u8]) -> u32
 }
 
 // ---- GIFT-64's, the same
-
-fn key_code_64(key: usize, block: usize) -> u32
-    ensures { λ r. ⌜ r ≡ keyCode64 key block ⌝ }
-{
-    if key != 16 {
-        return BAD_KEY_LENGTH;
-    }
-    if block != 8 {
-        return BAD_BLOCK_LENGTH;
-    }
-    DONE
-}
 
 pub fn encrypt_64_by_key(key: &[u8], block: &mut [u8]) -> u32
     ensures { λ r. ⌜ CiphersByKey64 false (now (key .entry)) (now (block .entry)) r (now (block .exit)) ⌝ }

@@ -6,8 +6,7 @@ ghost use denote.Ref.{now};
 ghost use Rattle.bits.specs.Digit.{one, bit};
 ghost use Rattle.published.specs.Rounds.{subCells, P, permBits, xored, keyBit, constantBit, step, round, unround};
 ghost use Rattle.published.specs.Inner.{unPermBits};
-ghost use Rattle.published.specs.Key.{ror16, update};
-ghost use Rattle.plain.specs.Inner.{stateOf, by, Nibbles, oneAt, pair, keyOf};
+ghost use Rattle.plain.specs.Inner.{stateOf, by, Nibbles, oneAt, pair};
 
 // ---- a round
 
@@ -116,30 +115,7 @@ pub(crate) fn unround(s: &mut [u8], j: usize, u: u32, v: u32, c: u8)
     sub_cells(s, INVERSE);
 }
 
-// ---- the key state, ki at place i, and the constant
-
-fn rotated_right(k: u16, r: u32) -> u16
-    requires { ⌜ (0 < r) × (r < 16) ⌝ }
-    ensures { λ w. ⌜ w ≡ ror16 r k ⌝ }
-{
-    k >> r | k << (16 - r)
-}
-
-// 5. The key state becomes (k1 rotated right 2) ‖ (k0 rotated right 12) ‖ k7 ‖ k6 ‖ k5 ‖ k4 ‖ k3 ‖ k2. It is listed from k0 on.
-pub(crate) fn update_key(k: [u16; 8]) -> [u16; 8]
-    ensures { λ r. ⌜ keyOf r ≡ update (keyOf k) ⌝ }
-{
-    [
-        k[2],
-        k[3],
-        k[4],
-        k[5],
-        k[6],
-        k[7],
-        rotated_right(k[0], 12),
-        rotated_right(k[1], 2),
-    ]
-}
+// ---- the constant
 
 // (c5,c4,c3,c2,c1,c0) becomes (c4,c3,c2,c1,c0, c5 xor c4 xor 1).
 pub(crate) fn step_constant(c: u8) -> u8

@@ -5,8 +5,8 @@ use lib.ListN.{length, List·getD-eq-default}
 use borrow.Author.Needs.{needs}
 use Rattle.lane.specs.declared.Lane.{Lane}
 use Rattle.lane.specs.Record.{admits}
-use Rattle.bench.specs.Turning.{laneCount}
-use Rattle.bench.proofs.Soundness.{unmapped}
+use Rattle.bench_orders.specs.Orders.{laneCount}
+use Rattle.bench_turns.proofs.Soundness.{unmapped}
 use Rattle.bench.proofs.admits_at.Statement.{statement}
 use Rattle.bench.proofs.admits_at.Tie as tie
 

@@ -1,8 +1,8 @@
 -- `bench::close` answers as said: its number first, and if that is 0 the lane idle.
 use mathlib.Core.Path.{sym, ap, _∙_}
 use borrow.Author.Needs.{needs}
+use Rattle.bench_orders.proofs.Passing.{close-passed}
 use Rattle.bench.specs.Calls.{put}
-use Rattle.bench.proofs.Passing.{close-passed}
 use Rattle.bench.proofs.Answered.{close-refused, close-done}
 use Rattle.bench.proofs.close.Statement.{statement}
 use Rattle.bench.proofs.close.Tie as tie

@@ -1,6 +1,6 @@
 -- `bench::fresh` makes the fresh bench.
 use borrow.Author.Needs.{needs}
-use Rattle.bench.specs.Turning.{laneCount}
+use Rattle.bench_orders.specs.Orders.{laneCount}
 use Rattle.bench.specs.Calls.{freshBench}
 use Rattle.bench.proofs.fresh.Statement.{statement}
 use Rattle.bench.proofs.fresh.Tie as tie

@@ -4,8 +4,8 @@ use native.Mathlib.Omega.{arith}
 use borrow.Author.Needs.{needs}
 use borrow.Author.Tests.{leb-true}
 use denote.Ref.{now}
+use Rattle.bench_orders.proofs.Passing.{open-passed}
 use Rattle.bench.specs.Calls.{put}
-use Rattle.bench.proofs.Passing.{open-passed}
 use Rattle.bench.proofs.Answered.{open-refused, open-done}
 use Rattle.bench.proofs.open_lane.Statement.{statement}
 use Rattle.bench.proofs.open_lane.Tie as tie

@@ -1,7 +1,7 @@
 -- `bench::put` puts a record into a lane.
 use mathlib.Core.Path.{refl}
 use native.Mathlib.Omega.{arith}
-use Rattle.bench.specs.Turning.{laneCount}
+use Rattle.bench_orders.specs.Orders.{laneCount}
 use Rattle.bench.specs.Calls.{put}
 use Rattle.bench.proofs.put.Statement.{statement}
 use Rattle.bench.proofs.put.Tie as tie

@@ -2,9 +2,9 @@
 use mathlib.Core.Path.{sym, ap, _∙_}
 use borrow.Author.Needs.{needs}
 use denote.Ref.{now}
-use Rattle.bench.specs.Turning.{laneCount}
+use Rattle.bench_orders.specs.Orders.{laneCount}
+use Rattle.bench_orders.proofs.Passing.{take-passed}
 use Rattle.bench.specs.Calls.{put}
-use Rattle.bench.proofs.Passing.{take-passed}
 use Rattle.bench.proofs.Answered.{take-refused, take-done}
 use Rattle.bench.proofs.take.Statement.{statement}
 use Rattle.bench.proofs.take.Tie as tie

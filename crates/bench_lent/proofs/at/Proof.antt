@@ -22,7 +22,7 @@ use denote.Index.{place-is, elem-out, elem-back}
 use denote.Slice.{Room}
 use denote.Triple.Table.{entered}
 use Rattle.lane.specs.declared.Lane.{Lane}
-use Rattle.bench.specs.Turning.{laneAt}
+use Rattle.bench_turns.specs.Turning.{laneAt}
 use Rattle.bench_lent.proofs.Walk.{allocated, freed}
 use Rattle.bench_lent.proofs.Plain.{Args, Valued}
 use Rattle.bench_lent.proofs.Records.{lane, vals, none}

@@ -28,9 +28,9 @@ use Rattle.bench_lent.proofs.Calling.{ByValue, calls}
 use Rattle.bench_lent.proofs.Lending.{R, mach, held, Lending, calls-lending, Leaves, leaves, lent-meets}
 use Rattle.bench_lent.proofs.Parts.{CloseCode, IdleLane, Put, Look, Close}
 use Rattle.bench_lent.proofs.Steps.{var, part, lets, gets, relent, tested, no-zero, is-zero}
-use Rattle.bench.proofs.orders.close_code.Symbol as close-code-def
-use Rattle.bench.proofs.orders.close_code.Symbol.{name as #bench·orders·close-code}
-use Rattle.bench.proofs.orders.close_code.Met as close-code-thm
+use Rattle.bench_orders.proofs.close_code.Symbol as close-code-def
+use Rattle.bench_orders.proofs.close_code.Symbol.{name as #bench-orders·close-code}
+use Rattle.bench_orders.proofs.close_code.Met as close-code-thm
 use Rattle.lane.proofs.idle_lane.Symbol as idle-lane-def
 use Rattle.lane.proofs.idle_lane.Symbol.{name as #lane·idle-lane}
 use Rattle.lane.proofs.idle_lane.Met as idle-lane-thm
@@ -45,7 +45,7 @@ use Rattle.bench_lent.proofs.close.Statement as stated
 use Rattle.bench_lent.proofs.close.Code as code
 
 module _ {M : Type 1} (𝓤 : URA M) (H : Heap 𝓤) (A : Atoms 𝓤) (W : Given 𝓤 H A) (C : Calls 𝓤 H) (Λ : Loops 𝓤 H) (fm : FmC 𝓤 H (W .laws) C)
-    (known-close-code : Triple 𝓤 (C #bench·orders·close-code) (ByValue CloseCode 𝓤 H A)) (known-idle-lane : Triple 𝓤 (C #lane·idle-lane) (ByValue IdleLane 𝓤 H A))
+    (known-close-code : Triple 𝓤 (C #bench-orders·close-code) (ByValue CloseCode 𝓤 H A)) (known-idle-lane : Triple 𝓤 (C #lane·idle-lane) (ByValue IdleLane 𝓤 H A))
     (known-put : Triple 𝓤 (C #bench-lent·put) (Lending Put 𝓤 H A)) (known-look : Triple 𝓤 (C #bench-lent·look) (Lending Look 𝓤 H A))
     (κ : Lft) (s : Share) (b o : ℕ) (γ : GName) (ys : List Lane) (a : Args 1 (κ, tt) (Close .params)) (room : Room R (length ys)) (are : Valued 1 (κ, tt) (Close .params) a) (_ : Unit {0}) where
   abbrev last : ℕ
@@ -96,7 +96,7 @@ close-spec 𝓤 H 𝓜 𝓖 𝓡 =
     let W = givenOf 𝓤 H 𝓜 𝓖 in
     entered 𝓤 H (Lending Close 𝓤 H (𝓖 .A)) (tables 𝓤 H 𝓜 𝓡 code.env .C) (tables 𝓤 H 𝓜 𝓡 code.env .Λ) #bench-lent·close code.function (code.unfolded 𝓤 H 𝓜 𝓡)
     (lent-meets Close 𝓤 H (𝓖 .A) W 𝓣 code.function (walk 𝓤 H (𝓖 .A) W (𝓣 .C) (𝓣 .Λ) (fmOf 𝓤 H (W .laws) 𝓣)
-    (cited 𝓤 H (ByValue CloseCode 𝓤 H (𝓖 .A)) 𝓜 𝓡 code.env #bench·orders·close-code close-code-def.routine code.calls-bench·orders·close-code (close-code-thm.met 𝓤 H 𝓜 𝓖 𝓡))
+    (cited 𝓤 H (ByValue CloseCode 𝓤 H (𝓖 .A)) 𝓜 𝓡 code.env #bench-orders·close-code close-code-def.routine code.calls-bench-orders·close-code (close-code-thm.met 𝓤 H 𝓜 𝓖 𝓡))
     (cited 𝓤 H (ByValue IdleLane 𝓤 H (𝓖 .A)) 𝓜 𝓡 code.env #lane·idle-lane idle-lane-def.routine code.calls-lane·idle-lane (idle-lane-thm.met 𝓤 H 𝓜 𝓖 𝓡))
     (cited 𝓤 H (Lending Put 𝓤 H (𝓖 .A)) 𝓜 𝓡 code.env #bench-lent·put put-def.routine code.calls-bench-lent·put (put-thm.met 𝓤 H 𝓜 𝓖 𝓡))
     (cited 𝓤 H (Lending Look 𝓤 H (𝓖 .A)) 𝓜 𝓡 code.env #bench-lent·look look-def.routine code.calls-bench-lent·look (look-thm.met 𝓤 H 𝓜 𝓖 𝓡))))

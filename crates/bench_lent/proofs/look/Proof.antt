@@ -26,7 +26,8 @@ use denote.Slice.{Room}
 use denote.Triple.Statement.{Triple}
 use denote.Triple.Table.{entered, cited}
 use Rattle.lane.specs.declared.Lane.{Lane}
-use Rattle.bench.specs.Turning.{laneCount, laneAt}
+use Rattle.bench_orders.specs.Orders.{laneCount}
+use Rattle.bench_turns.specs.Turning.{laneAt}
 use Rattle.bench_lent.specs.declared.Seen.{Seen}
 use Rattle.bench_lent.proofs.Looking.{Looks, looks-start, looks-in, looks-on, looks-end}
 use Rattle.bench_lent.proofs.Walk.{Places, filled, allocated, freed}

@@ -38,14 +38,14 @@ use denote.Triple.Statement.{Contract, Triple}
 use denote.Triple.Table.{entered, cited}
 use denote.Triple.Walked.{says, Stays, stay-slice, stay-none, stay-none-slice, walkOf, Goes, AllGo, goes-slice, goes-none, goes-none-slice, Walks, ends-at, walked, walk-meets}
 use Rattle.lane.specs.declared.Lane.{Lane}
-use Rattle.lane.specs.Record.{opened as opens}
-use Rattle.lane.proofs.opened as opened
-use Rattle.lane.proofs.opened.Symbol as opened-def
-use Rattle.lane.proofs.opened.Symbol.{name as #lane·opened}
-use Rattle.lane.proofs.opened.Met as opened-thm
-use Rattle.bench.proofs.orders.open_code.Symbol as open-code-def
-use Rattle.bench.proofs.orders.open_code.Symbol.{name as #bench·orders·open-code}
-use Rattle.bench.proofs.orders.open_code.Met as open-code-thm
+use Rattle.lane_turns.specs.Turns.{opened as opens}
+use Rattle.lane_turns.proofs.opened as opened
+use Rattle.lane_turns.proofs.opened.Symbol as opened-def
+use Rattle.lane_turns.proofs.opened.Symbol.{name as #lane-turns·opened}
+use Rattle.lane_turns.proofs.opened.Met as opened-thm
+use Rattle.bench_orders.proofs.open_code.Symbol as open-code-def
+use Rattle.bench_orders.proofs.open_code.Symbol.{name as #bench-orders·open-code}
+use Rattle.bench_orders.proofs.open_code.Met as open-code-thm
 use Rattle.bench_lent.specs.Lent.{Opens}
 use Rattle.bench_lent.proofs.Answering.{open-in, open-way, open-order, open-no, open-yes}
 use Rattle.bench_lent.proofs.Walk.{allocated, freed}
@@ -144,7 +144,7 @@ module _ {M : Type 1} (𝓤 : URA M) (H : Heap 𝓤) (A : Atoms 𝓤) (W : Given
       show ! (λ (k : Lane). guard 𝓤 (Opened v k) (sep 𝓤 (A .lft κ₁ s₁) (A .lft κ₂ s₂))) l $ check ! (right, e, subst (λ (u : Val). Is R l (u ∷ [])) e is) $
       move ! (1 ∷ []) $ split3 ! $ frame ! $ keep ! (0 ∷ []) $ done !))))
 
-  module _ (C : Calls 𝓤 H) (Λ : Loops 𝓤 H) (fm : FmC 𝓤 H (W .laws) C) (known-open-code : Triple 𝓤 (C #bench·orders·open-code) (ByValue OpenCode 𝓤 H A)) (known-opened : Triple 𝓤 (C #lane·opened) (Open 𝓤 H A at-mem run))
+  module _ (C : Calls 𝓤 H) (Λ : Loops 𝓤 H) (fm : FmC 𝓤 H (W .laws) C) (known-open-code : Triple 𝓤 (C #bench-orders·open-code) (ByValue OpenCode 𝓤 H A)) (known-opened : Triple 𝓤 (C #lane-turns·opened) (Open 𝓤 H A at-mem run))
       (known-put : Triple 𝓤 (C #bench-lent·put) (Lending Put 𝓤 H A)) (known-look : Triple 𝓤 (C #bench-lent·look) (Lending Look 𝓤 H A)) where
     abbrev passed-in : List Val
     passed-in = mach b o (length ys) ∷ vint w32 last ∷ vint w32 which ∷ vint w16 owner ∷ vint w32 way ∷ vint w32 order ∷ sliceVal (key .ptr) (length (now key)) ∷ sliceVal (block .ptr) (length (now block)) ∷ []
@@ -199,7 +199,7 @@ module _ {M : Type 1} (𝓤 : URA M) (H : Heap 𝓤) (A : Atoms 𝓤) (W : Given
         freed ! $ by ! (exits c zs (open-yes ys last which owner r (sees .0) c way order (now key) (now block) told z (e .0) stored) size is-c)))))))))
 
 module _ {M : Type 1} (𝓤 : URA M) (H : Heap 𝓤) (A : Atoms 𝓤) (W : Given 𝓤 H A) (at-mem : Memory → SProp 𝓤) (run : Routine → Fun 𝓤) (𝓣 : Tables 𝓤 H)
-    (known-open-code : Triple 𝓤 (𝓣 .C #bench·orders·open-code) (ByValue OpenCode 𝓤 H A)) (known-opened : Triple 𝓤 (𝓣 .C #lane·opened) (Open 𝓤 H A at-mem run))
+    (known-open-code : Triple 𝓤 (𝓣 .C #bench-orders·open-code) (ByValue OpenCode 𝓤 H A)) (known-opened : Triple 𝓤 (𝓣 .C #lane-turns·opened) (Open 𝓤 H A at-mem run))
     (known-put : Triple 𝓤 (𝓣 .C #bench-lent·put) (Lending Put 𝓤 H A)) (known-look : Triple 𝓤 (𝓣 .C #bench-lent·look) (Lending Look 𝓤 H A)) where
   open-lane-walks : Walks 𝓤 H A open-lane.ended stayed (WpFn 𝓤 H (𝓣 .C) (𝓣 .Λ) code.function) (open-lane.clauses 𝓤 H A at-mem run)
   open-lane-walks = walked 𝓤 H A open-lane.ended stayed (open-lane.clauses 𝓤 H A at-mem run) (WpFn 𝓤 H (𝓣 .C) (𝓣 .Λ) code.function)
@@ -224,7 +224,7 @@ open-lane-spec 𝓤 H 𝓜 𝓖 𝓡 =
     entered 𝓤 H (tripleOf 𝓤 H (𝓖 .A) open-lane.signature (open-lane.spec 𝓤 H (𝓖 .A) (𝓜 .mem) (𝓡 .run)))
     (tables 𝓤 H 𝓜 𝓡 code.env .C) (tables 𝓤 H 𝓜 𝓡 code.env .Λ) #bench-lent·open-lane code.function (code.unfolded 𝓤 H 𝓜 𝓡)
     (open-lane-meets 𝓤 H (𝓖 .A) (givenOf 𝓤 H 𝓜 𝓖) (𝓜 .mem) (𝓡 .run) (tablesOf 𝓤 H 𝓜 (tables 𝓤 H 𝓜 𝓡 code.env))
-    (cited 𝓤 H (ByValue OpenCode 𝓤 H (𝓖 .A)) 𝓜 𝓡 code.env #bench·orders·open-code open-code-def.routine code.calls-bench·orders·open-code (open-code-thm.met 𝓤 H 𝓜 𝓖 𝓡))
-    (cited 𝓤 H (Open 𝓤 H (𝓖 .A) (𝓜 .mem) (𝓡 .run)) 𝓜 𝓡 code.env #lane·opened opened-def.routine code.calls-lane·opened (opened-thm.met 𝓤 H 𝓜 𝓖 𝓡))
+    (cited 𝓤 H (ByValue OpenCode 𝓤 H (𝓖 .A)) 𝓜 𝓡 code.env #bench-orders·open-code open-code-def.routine code.calls-bench-orders·open-code (open-code-thm.met 𝓤 H 𝓜 𝓖 𝓡))
+    (cited 𝓤 H (Open 𝓤 H (𝓖 .A) (𝓜 .mem) (𝓡 .run)) 𝓜 𝓡 code.env #lane-turns·opened opened-def.routine code.calls-lane-turns·opened (opened-thm.met 𝓤 H 𝓜 𝓖 𝓡))
     (cited 𝓤 H (Lending Put 𝓤 H (𝓖 .A)) 𝓜 𝓡 code.env #bench-lent·put put-def.routine code.calls-bench-lent·put (put-thm.met 𝓤 H 𝓜 𝓖 𝓡))
     (cited 𝓤 H (Lending Look 𝓤 H (𝓖 .A)) 𝓜 𝓡 code.env #bench-lent·look look-def.routine code.calls-bench-lent·look (look-thm.met 𝓤 H 𝓜 𝓖 𝓡)))

@@ -4,7 +4,7 @@ use native.Mathlib.Omega.{arith}
 use borrow.Author.Needs.{needs}
 use borrow.Author.Tests.{eq-eqb, ne-eqb, lt-ltb, le-ltb}
 use Rattle.lane.specs.Record.{running}
-use Rattle.bench.specs.Turning.{laneCount}
+use Rattle.bench_orders.specs.Orders.{laneCount}
 use Rattle.bench_lent.proofs.passed.Statement.{statement}
 use Rattle.bench_lent.proofs.passed.Tie as tie
 

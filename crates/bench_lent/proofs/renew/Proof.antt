@@ -28,7 +28,7 @@ use denote.Triple.Table.{entered}
 use Rattle.lane.specs.declared.Lane.{Lane}
 use Rattle.lane.proofs.Lane as L
 use Rattle.lane.proofs.Lane.Laws as L′
-use Rattle.bench.specs.Turning.{laneAt}
+use Rattle.bench_turns.specs.Turning.{laneAt}
 use Rattle.bench_lent.specs.Inner.{renewed}
 use Rattle.bench_lent.proofs.Walk.{allocated, freed}
 use Rattle.bench_lent.proofs.Plain.{Args, Valued}

@@ -28,7 +28,8 @@ use denote.Struct.Laws as LL
 use denote.Triple.Statement.{Triple}
 use denote.Triple.Table.{entered, cited}
 use Rattle.lane.specs.declared.Lane.{Lane}
-use Rattle.bench.specs.Turning.{laneCount, laneAt}
+use Rattle.bench_orders.specs.Orders.{laneCount}
+use Rattle.bench_turns.specs.Turning.{laneAt}
 use Rattle.bench_lent.specs.declared.Place.{Place}
 use Rattle.bench_lent.proofs.Place as P
 use Rattle.bench_lent.proofs.Place.Laws as P′

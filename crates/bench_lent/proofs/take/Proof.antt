@@ -36,8 +36,8 @@ use denote.Triple.Statement.{Contract, Triple}
 use denote.Triple.Table.{entered, cited}
 use denote.Triple.Walked.{says, Stays, stay-slice, gave-slice, stay-none, walkOf, AllGo, goes-slice, goes-gave-slice, goes-none, Walks, ends-at, walked, walk-meets}
 use Rattle.lane.specs.declared.Lane.{Lane}
-use Rattle.lane.specs.Record.{yielded as yields}
-use Rattle.lane.proofs.yielded as yielded
+use Rattle.lane_turns.specs.Turns.{yielded as yields}
+use Rattle.lane_turns.proofs.yielded as yielded
 use Rattle.bench_lent.specs.Lent.{Takes}
 use Rattle.bench_lent.proofs.Answering.{take-in, take-no, take-yes}
 use Rattle.bench_lent.proofs.Walk.{allocated, freed}
@@ -46,12 +46,12 @@ use Rattle.bench_lent.proofs.Calling.{ByValue, calls}
 use Rattle.bench_lent.proofs.Lending.{R, ref, mach, held, Lending, calls-lending}
 use Rattle.bench_lent.proofs.Parts.{TakeCode, IdleLane, At, Put, Look}
 use Rattle.bench_lent.proofs.Steps.{var, part, lets, gets, relent, tested, no-zero, is-zero, lasting}
-use Rattle.bench.proofs.orders.take_code.Symbol as take-code-def
-use Rattle.bench.proofs.orders.take_code.Symbol.{name as #bench·orders·take-code}
-use Rattle.bench.proofs.orders.take_code.Met as take-code-thm
-use Rattle.lane.proofs.yielded.Symbol as yielded-def
-use Rattle.lane.proofs.yielded.Symbol.{name as #lane·yielded}
-use Rattle.lane.proofs.yielded.Met as yielded-thm
+use Rattle.bench_orders.proofs.take_code.Symbol as take-code-def
+use Rattle.bench_orders.proofs.take_code.Symbol.{name as #bench-orders·take-code}
+use Rattle.bench_orders.proofs.take_code.Met as take-code-thm
+use Rattle.lane_turns.proofs.yielded.Symbol as yielded-def
+use Rattle.lane_turns.proofs.yielded.Symbol.{name as #lane-turns·yielded}
+use Rattle.lane_turns.proofs.yielded.Met as yielded-thm
 use Rattle.lane.proofs.idle_lane.Symbol as idle-lane-def
 use Rattle.lane.proofs.idle_lane.Symbol.{name as #lane·idle-lane}
 use Rattle.lane.proofs.idle_lane.Met as idle-lane-thm
@@ -130,7 +130,7 @@ module _ {M : Type 1} (𝓤 : URA M) (H : Heap 𝓤) (A : Atoms 𝓤) (W : Given
       fsplit ! $ drop ! $ fsplit ! $ fsplit ! $ rewrite ! 0 (λ (bs : List ℕ). ‵ (finally u8 (name out) bs)) e refl $ move ! (1 ∷ []) $ feqL ! (λ same. at-once ! $ check ! (sym (ap length e) ∙ same) $
       move ! (2 ∷ []) $ split ! $ split ! $ frame ! $ keep ! (2 ∷ 1 ∷ []) $ done !))))
 
-  module _ (C : Calls 𝓤 H) (Λ : Loops 𝓤 H) (fm : FmC 𝓤 H (W .laws) C) (known-take-code : Triple 𝓤 (C #bench·orders·take-code) (ByValue TakeCode 𝓤 H A)) (known-yielded : Triple 𝓤 (C #lane·yielded) (Yield 𝓤 H A at-mem run))
+  module _ (C : Calls 𝓤 H) (Λ : Loops 𝓤 H) (fm : FmC 𝓤 H (W .laws) C) (known-take-code : Triple 𝓤 (C #bench-orders·take-code) (ByValue TakeCode 𝓤 H A)) (known-yielded : Triple 𝓤 (C #lane-turns·yielded) (Yield 𝓤 H A at-mem run))
       (known-idle-lane : Triple 𝓤 (C #lane·idle-lane) (ByValue IdleLane 𝓤 H A)) (known-at : Triple 𝓤 (C #bench-lent·at) (Lending At 𝓤 H A)) (known-put : Triple 𝓤 (C #bench-lent·put) (Lending Put 𝓤 H A))
       (known-look : Triple 𝓤 (C #bench-lent·look) (Lending Look 𝓤 H A)) where
     abbrev passed-in : List Val
@@ -187,7 +187,7 @@ module _ {M : Type 1} (𝓤 : URA M) (H : Heap 𝓤) (A : Atoms 𝓤) (W : Given
         freed ! $ by ! (exits c zs (bytes l) (take-yes ys last which caller r (sees .0) c (now out) told z (read .0) refl idle stored) size full is-c)))))))))))
 
 module _ {M : Type 1} (𝓤 : URA M) (H : Heap 𝓤) (A : Atoms 𝓤) (W : Given 𝓤 H A) (at-mem : Memory → SProp 𝓤) (run : Routine → Fun 𝓤) (𝓣 : Tables 𝓤 H)
-    (known-take-code : Triple 𝓤 (𝓣 .C #bench·orders·take-code) (ByValue TakeCode 𝓤 H A)) (known-yielded : Triple 𝓤 (𝓣 .C #lane·yielded) (Yield 𝓤 H A at-mem run)) (known-idle-lane : Triple 𝓤 (𝓣 .C #lane·idle-lane) (ByValue IdleLane 𝓤 H A))
+    (known-take-code : Triple 𝓤 (𝓣 .C #bench-orders·take-code) (ByValue TakeCode 𝓤 H A)) (known-yielded : Triple 𝓤 (𝓣 .C #lane-turns·yielded) (Yield 𝓤 H A at-mem run)) (known-idle-lane : Triple 𝓤 (𝓣 .C #lane·idle-lane) (ByValue IdleLane 𝓤 H A))
     (known-at : Triple 𝓤 (𝓣 .C #bench-lent·at) (Lending At 𝓤 H A)) (known-put : Triple 𝓤 (𝓣 .C #bench-lent·put) (Lending Put 𝓤 H A)) (known-look : Triple 𝓤 (𝓣 .C #bench-lent·look) (Lending Look 𝓤 H A)) where
   take-walks : Walks 𝓤 H A take.ended stayed (WpFn 𝓤 H (𝓣 .C) (𝓣 .Λ) code.function) (take.clauses 𝓤 H A at-mem run)
   take-walks = walked 𝓤 H A take.ended stayed (take.clauses 𝓤 H A at-mem run) (WpFn 𝓤 H (𝓣 .C) (𝓣 .Λ) code.function)
@@ -208,8 +208,8 @@ take-spec 𝓤 H 𝓜 𝓖 𝓡 =
     entered 𝓤 H (tripleOf 𝓤 H (𝓖 .A) take.signature (take.spec 𝓤 H (𝓖 .A) (𝓜 .mem) (𝓡 .run)))
     (tables 𝓤 H 𝓜 𝓡 code.env .C) (tables 𝓤 H 𝓜 𝓡 code.env .Λ) #bench-lent·take code.function (code.unfolded 𝓤 H 𝓜 𝓡)
     (take-meets 𝓤 H (𝓖 .A) (givenOf 𝓤 H 𝓜 𝓖) (𝓜 .mem) (𝓡 .run) (tablesOf 𝓤 H 𝓜 (tables 𝓤 H 𝓜 𝓡 code.env))
-    (cited 𝓤 H (ByValue TakeCode 𝓤 H (𝓖 .A)) 𝓜 𝓡 code.env #bench·orders·take-code take-code-def.routine code.calls-bench·orders·take-code (take-code-thm.met 𝓤 H 𝓜 𝓖 𝓡))
-    (cited 𝓤 H (Yield 𝓤 H (𝓖 .A) (𝓜 .mem) (𝓡 .run)) 𝓜 𝓡 code.env #lane·yielded yielded-def.routine code.calls-lane·yielded (yielded-thm.met 𝓤 H 𝓜 𝓖 𝓡))
+    (cited 𝓤 H (ByValue TakeCode 𝓤 H (𝓖 .A)) 𝓜 𝓡 code.env #bench-orders·take-code take-code-def.routine code.calls-bench-orders·take-code (take-code-thm.met 𝓤 H 𝓜 𝓖 𝓡))
+    (cited 𝓤 H (Yield 𝓤 H (𝓖 .A) (𝓜 .mem) (𝓡 .run)) 𝓜 𝓡 code.env #lane-turns·yielded yielded-def.routine code.calls-lane-turns·yielded (yielded-thm.met 𝓤 H 𝓜 𝓖 𝓡))
     (cited 𝓤 H (ByValue IdleLane 𝓤 H (𝓖 .A)) 𝓜 𝓡 code.env #lane·idle-lane idle-lane-def.routine code.calls-lane·idle-lane (idle-lane-thm.met 𝓤 H 𝓜 𝓖 𝓡))
     (cited 𝓤 H (Lending At 𝓤 H (𝓖 .A)) 𝓜 𝓡 code.env #bench-lent·at at-def.routine code.calls-bench-lent·at (at-thm.met 𝓤 H 𝓜 𝓖 𝓡))
     (cited 𝓤 H (Lending Put 𝓤 H (𝓖 .A)) 𝓜 𝓡 code.env #bench-lent·put put-def.routine code.calls-bench-lent·put (put-thm.met 𝓤 H 𝓜 𝓖 𝓡))

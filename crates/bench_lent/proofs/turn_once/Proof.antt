@@ -21,14 +21,15 @@ use denote.Slice.{Room}
 use denote.Triple.Statement.{Triple}
 use denote.Triple.Table.{entered, cited}
 use Rattle.lane.specs.declared.Lane.{Lane}
-use Rattle.lane.proofs.served.Symbol as served-def
-use Rattle.lane.proofs.served.Symbol.{name as #lane·served}
-use Rattle.lane.proofs.served.Met as served-thm
-use Rattle.bench.specs.Turning.{laneCount, chosen}
-use Rattle.bench.proofs.Seeking.{after-lt, chosen-is}
-use Rattle.bench.proofs.after.Symbol as after-def
-use Rattle.bench.proofs.after.Symbol.{name as #bench·after}
-use Rattle.bench.proofs.after.Met as after-thm
+use Rattle.lane_turns.proofs.served.Symbol as served-def
+use Rattle.lane_turns.proofs.served.Symbol.{name as #lane-turns·served}
+use Rattle.lane_turns.proofs.served.Met as served-thm
+use Rattle.bench_orders.specs.Orders.{laneCount}
+use Rattle.bench_turns.specs.Turning.{chosen}
+use Rattle.bench_turns.proofs.Seeking.{after-lt, chosen-is}
+use Rattle.bench_turns.proofs.after.Symbol as after-def
+use Rattle.bench_turns.proofs.after.Symbol.{name as #bench-turns·after}
+use Rattle.bench_turns.proofs.after.Met as after-thm
 use Rattle.bench_lent.specs.Lent.{benchOf}
 use Rattle.bench_lent.proofs.Effects.{turn-in, no-turn}
 use Rattle.bench_lent.proofs.Walk.{allocated, freed}
@@ -52,7 +53,7 @@ use Rattle.bench_lent.proofs.turn_once.Statement as stated
 use Rattle.bench_lent.proofs.turn_once.Code as code
 
 module _ {M : Type 1} (𝓤 : URA M) (H : Heap 𝓤) (A : Atoms 𝓤) (W : Given 𝓤 H A) (C : Calls 𝓤 H) (Λ : Loops 𝓤 H) (fm : FmC 𝓤 H (W .laws) C)
-    (known-after : Triple 𝓤 (C #bench·after) (ByValue After 𝓤 H A)) (known-served : Triple 𝓤 (C #lane·served) (ByValue Served 𝓤 H A))
+    (known-after : Triple 𝓤 (C #bench-turns·after) (ByValue After 𝓤 H A)) (known-served : Triple 𝓤 (C #lane-turns·served) (ByValue Served 𝓤 H A))
     (known-at : Triple 𝓤 (C #bench-lent·at) (Lending At 𝓤 H A)) (known-renew : Triple 𝓤 (C #bench-lent·renew) (Lending Renew 𝓤 H A)) (known-seek : Triple 𝓤 (C #bench-lent·seek) (Lending Seek 𝓤 H A))
     (κ : Lft) (s : Share) (b o : ℕ) (γ : GName) (ys : List Lane) (a : Args 1 (κ, tt) (TurnOnce .params)) (room : Room R (length ys)) (are : Valued 1 (κ, tt) (TurnOnce .params) a) (many : length ys ≡ laneCount) where
   abbrev last : ℕ
@@ -104,8 +105,8 @@ turn-once-spec 𝓤 H 𝓜 𝓖 𝓡 =
     let W = givenOf 𝓤 H 𝓜 𝓖 in
     entered 𝓤 H (Lending TurnOnce 𝓤 H (𝓖 .A)) (tables 𝓤 H 𝓜 𝓡 code.env .C) (tables 𝓤 H 𝓜 𝓡 code.env .Λ) #bench-lent·turn-once code.function (code.unfolded 𝓤 H 𝓜 𝓡)
     (lent-meets TurnOnce 𝓤 H (𝓖 .A) W 𝓣 code.function (walk 𝓤 H (𝓖 .A) W (𝓣 .C) (𝓣 .Λ) (fmOf 𝓤 H (W .laws) 𝓣)
-    (cited 𝓤 H (ByValue After 𝓤 H (𝓖 .A)) 𝓜 𝓡 code.env #bench·after after-def.routine code.calls-bench·after (after-thm.met 𝓤 H 𝓜 𝓖 𝓡))
-    (cited 𝓤 H (ByValue Served 𝓤 H (𝓖 .A)) 𝓜 𝓡 code.env #lane·served served-def.routine code.calls-lane·served (served-thm.met 𝓤 H 𝓜 𝓖 𝓡))
+    (cited 𝓤 H (ByValue After 𝓤 H (𝓖 .A)) 𝓜 𝓡 code.env #bench-turns·after after-def.routine code.calls-bench-turns·after (after-thm.met 𝓤 H 𝓜 𝓖 𝓡))
+    (cited 𝓤 H (ByValue Served 𝓤 H (𝓖 .A)) 𝓜 𝓡 code.env #lane-turns·served served-def.routine code.calls-lane-turns·served (served-thm.met 𝓤 H 𝓜 𝓖 𝓡))
     (cited 𝓤 H (Lending At 𝓤 H (𝓖 .A)) 𝓜 𝓡 code.env #bench-lent·at at-def.routine code.calls-bench-lent·at (at-thm.met 𝓤 H 𝓜 𝓖 𝓡))
     (cited 𝓤 H (Lending Renew 𝓤 H (𝓖 .A)) 𝓜 𝓡 code.env #bench-lent·renew renew-def.routine code.calls-bench-lent·renew (renew-thm.met 𝓤 H 𝓜 𝓖 𝓡))
     (cited 𝓤 H (Lending Seek 𝓤 H (𝓖 .A)) 𝓜 𝓡 code.env #bench-lent·seek seek-def.routine code.calls-bench-lent·seek (seek-thm.met 𝓤 H 𝓜 𝓖 𝓡))))

@@ -1,7 +1,7 @@
 -- `bench_lent::unseen` starts a look: over at once where the records are not as many as the lanes, or no such lane was last served.
 use mathlib.Core.Path.{refl}
 use borrow.Author.Tests.{eq-eqb, ne-eqb, lt-ltb, le-ltb}
-use Rattle.bench.specs.Turning.{laneCount}
+use Rattle.bench_orders.specs.Orders.{laneCount}
 use Rattle.bench_lent.proofs.unseen.Statement.{statement}
 use Rattle.bench_lent.proofs.unseen.Tie as tie
 

@@ -2,7 +2,7 @@
 use mathlib.Core.Path.{refl}
 use borrow.Author.Needs.{needs}
 use borrow.Author.Tests.{lt-ltb, le-ltb}
-use Rattle.bench.specs.Turning.{laneCount}
+use Rattle.bench_orders.specs.Orders.{laneCount}
 use Rattle.bench_lent.proofs.went.Statement.{statement}
 use Rattle.bench_lent.proofs.went.Tie as tie
 

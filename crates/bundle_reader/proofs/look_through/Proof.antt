@@ -2,6 +2,7 @@
 use mathlib.Core.Path.{sym, _∙_}
 use native.Mathlib.Omega.{arith}
 use borrow.Author.Needs.{needs}
+use Rattle.bundle_judge.proofs.Judging.{count-in}
 use Rattle.bundle_reader.proofs.Steps.{room, opened-refused, opened-done}
 use Rattle.bundle_reader.proofs.look_through.Statement.{statement}
 use Rattle.bundle_reader.proofs.look_through.Tie as tie
@@ -10,7 +11,7 @@ returns : tie.Need-returns
 returns c = opened-refused _ _ _ _ (c .before .read-code .ensures) (c .if1 .taken)
 
 returns-2 : tie.Need-returns-2
-returns-2 c = opened-done _ _ _ _ (c .before .before .read-code .ensures) (c .before .if1 .left) _ (c .number2 .ensures .0)
+returns-2 c = opened-done _ _ _ _ (c .before .before .read-code .ensures) (c .before .if1 .left) _ (c .count-of .ensures ∙ count-in _ (omega (arith, room _ _ _ (sym (c .before .before .read-code .ensures) ∙ c .before .if1 .left) .least)))
 
 pub look-through-spec : {M : Type 1} → statement M
 look-through-spec =
@@ -18,6 +19,6 @@ look-through-spec =
     (tie.spec
     (λ c κs. search needs)
     returns
-    (λ c κs. omega (arith, room _ _ _ (sym (c .before .read-code .ensures) ∙ c .if1 .left) .least))
+    (λ c κs. search needs)
     (λ c. omega (arith, room _ _ _ (sym (c .before .before .read-code .ensures) ∙ c .before .if1 .left) .most))
     returns-2)

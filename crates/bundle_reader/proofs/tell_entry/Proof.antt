@@ -8,6 +8,7 @@ use lib.Seq.{drop-drop}
 use borrow.Author.Needs.{needs}
 use denote.Ref.{now}
 use Rattle.bundle_format.specs.Reader.{rowOf, tell}
+use Rattle.bundle_judge.proofs.Judging.{row-in}
 use Rattle.bundle_reader.proofs.Steps.{entry-none, entry-there}
 use Rattle.bundle_reader.proofs.tell_entry.Statement.{statement}
 use Rattle.bundle_reader.proofs.tell_entry.Tie as tie
@@ -22,7 +23,7 @@ returns-2 c =
     let a = c .before .before .before .before .args in
     let b : List ℕ = now (a .b) in
     c .tell-row .ensures
-    ∙ ap (tell (a .reader)) (c .before .row-at .ensures ∙ ap rowOf (sym (drop-drop (12 * a .i) 8 b)))
+    ∙ ap (tell (a .reader)) (c .before .row-at .ensures ∙ row-in _ b (omega arith) ∙ ap rowOf (sym (drop-drop (12 * a .i) 8 b)))
     ∙ sym (entry-there (a .reader) (a .count) (a .i) (drop 8 b) (omega arith))
 
 pub tell-entry-spec : {M : Type 1} → statement M

@@ -6,7 +6,8 @@ use native.Mathlib.Omega.{arith}
 use lib.ListN.{drop}
 use denote.Ref.{now}
 use Rattle.bundle_format.specs.Reader.{rowsFrom, tell, tellIn}
-use Rattle.bundle_reader.proofs.Cutting.{Left, left-start, left-end, left-stop, left-more}
+use Rattle.bundle_judge.proofs.Cutting.{Left, left-start, left-end, left-stop, left-more}
+use Rattle.bundle_judge.proofs.Judging.{row-in}
 use Rattle.bundle_reader.proofs.Steps.{tell-here, tell-more}
 use Rattle.bundle_reader.proofs.tell_id.Statement.{statement}
 use Rattle.bundle_reader.proofs.tell_id.Tie as tie
@@ -30,7 +31,7 @@ returns c =
     let l = c .before .before .before .before .before .loop in
     let r = c .before .before .before .row-at in
     c .tell-row .ensures
-    ∙ sym (left-stop b (a .count) (tellIn (a .reader) (a .id) (rowsFrom (a .count) (drop 8 b))) (tellIn (a .reader) (a .id)) (l .i) (l .inv .1) (omega arith) (r .result) (r .ensures) (tell (a .reader) (r .result)) (λ rs. tell-here (a .reader) (r .result) rs (a .id) (c .before .if1 .taken)))
+    ∙ sym (left-stop b (a .count) (tellIn (a .reader) (a .id) (rowsFrom (a .count) (drop 8 b))) (tellIn (a .reader) (a .id)) (l .i) (l .inv .1) (omega arith) (r .result) (r .ensures ∙ row-in _ b (omega arith)) (tell (a .reader) (r .result)) (λ rs. tell-here (a .reader) (r .result) rs (a .id) (c .before .if1 .taken)))
 
 loop-again : tie.Need-loop-again Inv-loop μ-loop
 loop-again c =
@@ -38,7 +39,7 @@ loop-again c =
     let b : List ℕ = now (a .b) in
     let l = c .before .before .before .before .loop in
     let r = c .before .before .row-at in
-    (omega arith, left-more b (a .count) (tellIn (a .reader) (a .id) (rowsFrom (a .count) (drop 8 b))) (tellIn (a .reader) (a .id)) (l .i) (l .inv .1) (omega arith) (r .result) (r .ensures) (tellIn (a .reader) (a .id)) (λ rs. tell-more (a .reader) (r .result) rs (a .id) (c .if1 .left)))
+    (omega arith, left-more b (a .count) (tellIn (a .reader) (a .id) (rowsFrom (a .count) (drop 8 b))) (tellIn (a .reader) (a .id)) (l .i) (l .inv .1) (omega arith) (r .result) (r .ensures ∙ row-in _ b (omega arith)) (tellIn (a .reader) (a .id)) (λ rs. tell-more (a .reader) (r .result) rs (a .id) (c .if1 .left)))
 
 returns-2 : tie.Need-returns-2 Inv-loop μ-loop
 unfolding tellIn

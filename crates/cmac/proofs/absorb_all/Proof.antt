@@ -6,7 +6,7 @@ use native.Mathlib.Omega.{arith}
 use lib.ListN.{length, take, drop, length-take, length-drop}
 use denote.Ref.{now}
 use Rattle.gift128.specs.Calls.{encryptedBy}
-use Rattle.cmac.specs.Standard.{_⊕_, before, blocks, chained}
+use Rattle.cmac_parts.specs.Standard.{_⊕_, before, blocks, chained}
 use Rattle.cmac.proofs.Chaining.{before-is, chained-more}
 use Rattle.cmac.proofs.absorb_all.Statement.{statement}
 use Rattle.cmac.proofs.absorb_all.Tie as tie

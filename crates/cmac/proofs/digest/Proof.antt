@@ -6,7 +6,7 @@ use native.Mathlib.Omega.{arith}
 use lib.ListN.{length, take, drop}
 use borrow.Author.Needs.{needs}
 use denote.Ref.{now}
-use Rattle.cmac.specs.Standard.{before, past}
+use Rattle.cmac_parts.specs.Standard.{before, past}
 use Rattle.cmac.proofs.Pieces.{to-end, past-short, past-fits, fills-all}
 use Rattle.cmac.proofs.digest.Statement.{statement}
 use Rattle.cmac.proofs.digest.Tie as tie

@@ -5,7 +5,7 @@ use Prim.Native.Nat.{ℕ}
 use borrow.Author.Needs.{needs}
 use denote.Ref.{now}
 use Rattle.gift128.specs.Calls.{encryptedBy}
-use Rattle.cmac.specs.Standard.{_⊕_, zeroBlock}
+use Rattle.cmac_parts.specs.Standard.{_⊕_, zeroBlock}
 use Rattle.cmac.proofs.finish.Statement.{statement}
 use Rattle.cmac.proofs.finish.Tie as tie
 

@@ -4,7 +4,7 @@ use lib.ListN.{length}
 use borrow.Author.Needs.{needs}
 use denote.Ref.{now}
 use Rattle.gift128.specs.Calls.{encryptedBy}
-use Rattle.cmac.specs.Standard.{_⊕_}
+use Rattle.cmac_parts.specs.Standard.{_⊕_}
 use Rattle.cmac.proofs.LastBlock.{length-zeroBlock, last-is}
 use Rattle.cmac.proofs.last.Statement.{statement}
 use Rattle.cmac.proofs.last.Tie as tie

@@ -8,7 +8,8 @@ use denote.Ref.{now}
 use Rattle.bits.proofs.Computed.{cond-true, cond-false}
 use Rattle.gift128.specs.Calls.{encryptedBy}
 use Rattle.gift128.proofs.OrderZero.{encrypts}
-use Rattle.cmac.specs.Standard.{zeroBlock, subkey, K1, K2}
+use Rattle.cmac_parts.specs.Standard.{zeroBlock, subkey, K1, K2}
+use Rattle.cmac_parts.proofs.Subkeys.{doubled-is}
 use Rattle.cmac.proofs.LastBlock.{length-zeroBlock}
 use Rattle.cmac.proofs.last_key.Statement.{statement}
 use Rattle.cmac.proofs.last_key.Tie as tie
@@ -18,29 +19,23 @@ first-key : (ws block e k : List ℕ) → block ≡ zeroBlock → e ≡ encrypte
 unfolding K1
 first-key ws block e k z made key = key ∙ ap subkey (made ∙ ap (encryptedBy ws) z)
 
-double-requires : tie.Need-double-requires
-double-requires c κs = c .before .before .before .encrypt-by-words .kept .1 .1 .0 ∙ ap length (c .before .before .before .before .before .before .before .pre .1) ∙ length-zeroBlock
-
 returns : tie.Need-returns
 returns c =
     let start = c .before .before .before .before .before .before .before .before .before .before .before in
     let ws : List ℕ = now (start .args .words) in
     first-key ws (now (start .args .key)) (c .before .before .before .before .before .before .before .encrypt-by-words .last .1 .1 .0) (c .before .before .before .double .last .0) (start .pre .1)
-    (encrypts ws (now (start .args .key)) (start .pre .0) (ap length (start .pre .1) ∙ length-zeroBlock) (c .before .before .before .before .before .before .before .encrypt-by-words .ensures)) (c .before .before .before .double .ensures)
+    (encrypts ws (now (start .args .key)) (start .pre .0) (ap length (start .pre .1) ∙ length-zeroBlock) (c .before .before .before .before .before .before .before .encrypt-by-words .ensures)) (doubled-is _ _ (c .before .before .before .before .before .before .before .encrypt-by-words .kept .1 .1 .0 ∙ ap length (start .pre .1) ∙ length-zeroBlock) (c .before .before .before .double .ensures))
     ∙ sym (cond-true _ _ _ (c .if1 .taken))
-
-double-requires-2 : tie.Need-double-requires-2
-double-requires-2 c κs = c .before .before .before .before .double .kept .0 ∙ c .before .before .before .before .before .before .before .before .encrypt-by-words .kept .1 .1 .0 ∙ ap length (c .before .before .before .before .before .before .before .before .before .before .before .before .pre .1) ∙ length-zeroBlock
 
 returns-2 : tie.Need-returns-2
 unfolding K2
 returns-2 c =
     let start = c .before .before .before .before .before .before .before .before .before .before .before .before .before .before .before in
     let ws : List ℕ = now (start .args .words) in
-    c .before .before .double2 .ensures
+    doubled-is _ _ (c .before .before .before .before .before .before .before .double .kept .0 ∙ c .before .before .before .before .before .before .before .before .before .before .before .encrypt-by-words .kept .1 .1 .0 ∙ ap length (start .pre .1) ∙ length-zeroBlock) (c .before .before .double2 .ensures)
     ∙ ap subkey
     (first-key ws (now (start .args .key)) (c .before .before .before .before .before .before .before .before .before .before .before .encrypt-by-words .last .1 .1 .0) (c .before .before .before .before .before .before .before .double .last .0) (start .pre .1)
-    (encrypts ws (now (start .args .key)) (start .pre .0) (ap length (start .pre .1) ∙ length-zeroBlock) (c .before .before .before .before .before .before .before .before .before .before .before .encrypt-by-words .ensures)) (c .before .before .before .before .before .before .before .double .ensures))
+    (encrypts ws (now (start .args .key)) (start .pre .0) (ap length (start .pre .1) ∙ length-zeroBlock) (c .before .before .before .before .before .before .before .before .before .before .before .encrypt-by-words .ensures)) (doubled-is _ _ (c .before .before .before .before .before .before .before .before .before .before .before .encrypt-by-words .kept .1 .1 .0 ∙ ap length (start .pre .1) ∙ length-zeroBlock) (c .before .before .before .before .before .before .before .double .ensures)))
     ∙ sym (cond-false _ _ _ (c .before .before .before .before .if1 .left))
 
 pub last-key-spec : {M : Type 1} → statement M
@@ -48,9 +43,9 @@ last-key-spec =
     tie.close
     (tie.spec
     (λ c κs. search needs)
-    double-requires
+    (λ c κs. search needs)
     (λ c. search needs)
     returns
-    double-requires-2
+    (λ c κs. search needs)
     (λ c. search needs)
     returns-2)

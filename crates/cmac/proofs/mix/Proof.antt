@@ -7,8 +7,8 @@ use lib.Bits.{bitXor}
 use lib.ListN.{length, getD, length-set}
 use denote.Ref.{now}
 use Rattle.bits.proofs.Filling.{written, written-more, written-here, written-all}
-use Rattle.cmac.specs.Standard.{_⊕_}
-use Rattle.cmac.proofs.Strings.{length-⊕, getD-⊕}
+use Rattle.cmac_parts.specs.Standard.{_⊕_}
+use Rattle.cmac_parts.proofs.Xored.{length-⊕, getD-⊕}
 use Rattle.cmac.proofs.mix.Statement.{statement}
 use Rattle.cmac.proofs.mix.Tie as tie
 

@@ -6,8 +6,9 @@ use lib.ListN.{length}
 use borrow.Author.Needs.{needs}
 use denote.Ref.{now}
 use Rattle.answers.proofs.Outcome.{refuses, done}
+use Rattle.cmac_parts.proofs.Passing.{piece-passed}
 use Rattle.cmac.specs.Calls.{heldBy}
-use Rattle.cmac.proofs.Pieces.{piece-passed, past-short, fed-by}
+use Rattle.cmac.proofs.Pieces.{past-short, fed-by}
 use Rattle.cmac.proofs.piece.Statement.{statement}
 use Rattle.cmac.proofs.piece.Tie as tie
 

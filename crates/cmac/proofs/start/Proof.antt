@@ -4,7 +4,7 @@ use lib.ListN.{length, replicate}
 use borrow.Author.Needs.{needs}
 use denote.Ref.{now}
 use Rattle.key_schedule.specs.Expand.{expandCode, expanded}
-use Rattle.cmac.specs.Standard.{zeroBlock}
+use Rattle.cmac_parts.specs.Standard.{zeroBlock}
 use Rattle.cmac.specs.Calls.{startedBy}
 use Rattle.cmac.proofs.Pieces.{done-after}
 use Rattle.cmac.proofs.start.Statement.{statement}

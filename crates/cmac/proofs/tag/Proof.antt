@@ -7,10 +7,10 @@ use lib.ListN.{length, take}
 use borrow.Author.Needs.{needs}
 use Rattle.answers.proofs.Outcome.{refuses, done}
 use Rattle.gift128.specs.Calls.{encryptedBy}
-use Rattle.cmac.specs.Standard.{_⊕_, lastBlock, chained}
+use Rattle.cmac_parts.specs.Standard.{_⊕_, lastBlock, chained}
+use Rattle.cmac_parts.proofs.Passing.{tag-passed}
 use Rattle.cmac.specs.Calls.{tagOf}
 use Rattle.cmac.proofs.LastBlock.{kept-whole}
-use Rattle.cmac.proofs.Pieces.{tag-passed}
 use Rattle.cmac.proofs.tag.Statement.{statement}
 use Rattle.cmac.proofs.tag.Tie as tie
 

@@ -4,7 +4,7 @@ use mathlib.Core.Bool.{cond}
 use Prim.Native.Nat.{ℕ, _+_, _-_, _*_, _%_}
 use lib.Dec.{eqb}
 use borrow.Author.Needs.{needs}
-use Rattle.counter.specs.Steps.{counters}
+use Rattle.counter_orders.specs.Orders.{counters}
 use Rattle.counter.specs.Inner.{moved}
 use Rattle.counter.proofs.moves.Statement.{statement}
 use Rattle.counter.proofs.moves.Tie as tie

@@ -6,8 +6,8 @@ use lib.ListN.{length}
 use borrow.Author.Needs.{needs}
 use denote.Ref.{now}
 use Rattle.answers.proofs.Outcome.{refuses, done}
-use Rattle.counter.specs.Steps.{counters}
-use Rattle.counter.proofs.Passing.{piece-passed}
+use Rattle.counter_orders.proofs.Passing.{piece-passed}
+use Rattle.counter_orders.specs.Orders.{counters}
 use Rattle.counter.proofs.Leaving.{fits-left, fed-none, fed-is}
 use Rattle.counter.proofs.piece.Statement.{statement}
 use Rattle.counter.proofs.piece.Tie as tie

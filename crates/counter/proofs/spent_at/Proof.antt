@@ -1,6 +1,6 @@
 -- `counter::spent_at`: 1 past the last counter.
 use borrow.Author.Tests.{ne-eqb}
-use Rattle.counter.specs.Steps.{counters}
+use Rattle.counter_orders.specs.Orders.{counters}
 use Rattle.counter.proofs.spent_at.Statement.{statement}
 use Rattle.counter.proofs.spent_at.Tie as tie
 

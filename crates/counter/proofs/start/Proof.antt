@@ -7,9 +7,9 @@ use borrow.Author.Needs.{needs}
 use denote.Ref.{now}
 use Rattle.answers.proofs.Outcome.{refuses, done}
 use Rattle.gift128.proofs.Blocks.{filled}
+use Rattle.counter_orders.proofs.Passing.{start-passed}
 use Rattle.counter.specs.Steps.{zeroBlock}
 use Rattle.counter.specs.Calls.{startedBy, noStream}
-use Rattle.counter.proofs.Passing.{start-passed}
 use Rattle.counter.proofs.start.Statement.{statement}
 use Rattle.counter.proofs.start.Tie as tie
 

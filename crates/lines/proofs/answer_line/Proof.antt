@@ -5,11 +5,11 @@ use Prim.Native.Nat.{ℕ}
 use native.Mathlib.Omega.{arith}
 use lib.ListN.{length}
 use borrow.Author.Needs.{needs}
-use Rattle.lines.specs.Line.{answerOf}
-use Rattle.lines.specs.Input.{answerLine}
 use Rattle.text.specs.Written.{written}
-use Rattle.lines.specs.Session.{held}
 use Rattle.text.proofs.Texts.{take-most}
+use Rattle.line_answers.specs.Line.{answerOf}
+use Rattle.lines.specs.Input.{answerLine}
+use Rattle.lines.specs.Session.{held}
 use Rattle.lines.proofs.answer_line.Statement.{statement}
 use Rattle.lines.proofs.answer_line.Tie as tie
 

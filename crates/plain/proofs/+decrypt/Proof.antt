@@ -10,19 +10,20 @@ use borrow.Fn.PlainCycle.{Measures, is, falls, and}
 use denote.Ref.{now}
 use Rattle.published.specs.Rounds.{Pair, unround}
 use Rattle.published.proofs.Undone.{unrounds-lt}
-use Rattle.plain.specs.Inner.{stateOf, nibblesOf, pair, keyOf, countOf, placeOf, uvOf, unroundsFrom}
+use Rattle.plain_key.specs.Inner.{keyOf, countOf, placeOf, uvOf}
+use Rattle.plain.specs.Inner.{stateOf, nibblesOf, pair, unroundsFrom}
 use Rattle.plain.proofs.Nibbles.{again, same-length, stateOf-lt, stateOf-nibblesOf, width-of}
 use Rattle.plain.proofs.Rounds.{constant-next, unrounds-done, round-last, nibbles-of-state, count-most, place-lt}
 use Rattle.plain.proofs.decrypt.Reads as decrypt
 use Rattle.plain.proofs.decrypt.Kinds as decrypt-kinds
 use Rattle.plain.proofs.+decrypt.Lts-decrypt as decrypt-lts
-use Rattle.plain.proofs.rounds_of.Reads as rounds-of-reads
+use Rattle.plain_key.proofs.rounds_of.Reads as rounds-of-reads
 use Rattle.plain.proofs.steps.unround.Reads as unround-reads
 use Rattle.plain.proofs.steps.step_constant.Reads as step-constant-reads
-use Rattle.plain.proofs.u_of.Reads as u-of-reads
-use Rattle.plain.proofs.steps.update_key.Reads as update-key-reads
-use Rattle.plain.proofs.v_of.Reads as v-of-reads
-use Rattle.plain.proofs.v_place.Reads as v-place-reads
+use Rattle.plain_key.proofs.u_of.Reads as u-of-reads
+use Rattle.plain_key.proofs.update_key.Reads as update-key-reads
+use Rattle.plain_key.proofs.v_of.Reads as v-of-reads
+use Rattle.plain_key.proofs.v_place.Reads as v-place-reads
 use Rattle.plain.proofs.+decrypt.{statement}
 use Rattle.plain.proofs.+decrypt.Tie.{close}
 

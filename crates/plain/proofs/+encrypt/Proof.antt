@@ -10,19 +10,20 @@ use borrow.Fn.PlainCycle.{Measures, is, falls, and}
 use denote.Ref.{now}
 use Rattle.published.specs.Rounds.{Pair, round}
 use Rattle.published.proofs.Undone.{round-lt}
-use Rattle.plain.specs.Inner.{stateOf, nibblesOf, pair, keyOf, countOf, placeOf, uvOf, roundsFrom}
+use Rattle.plain_key.specs.Inner.{keyOf, countOf, placeOf, uvOf}
+use Rattle.plain.specs.Inner.{stateOf, nibblesOf, pair, roundsFrom}
 use Rattle.plain.proofs.Nibbles.{again, same-length, width-of}
 use Rattle.plain.proofs.Rounds.{constant-next, rounds-done, round-first, state-after, nibbles-of-state, count-most, place-lt}
 use Rattle.plain.proofs.encrypt.Reads as encrypt
 use Rattle.plain.proofs.encrypt.Kinds as encrypt-kinds
 use Rattle.plain.proofs.+encrypt.Lts-encrypt as encrypt-lts
-use Rattle.plain.proofs.rounds_of.Reads as rounds-of-reads
+use Rattle.plain_key.proofs.rounds_of.Reads as rounds-of-reads
 use Rattle.plain.proofs.steps.round.Reads as round-reads
 use Rattle.plain.proofs.steps.step_constant.Reads as step-constant-reads
-use Rattle.plain.proofs.u_of.Reads as u-of-reads
-use Rattle.plain.proofs.steps.update_key.Reads as update-key-reads
-use Rattle.plain.proofs.v_of.Reads as v-of-reads
-use Rattle.plain.proofs.v_place.Reads as v-place-reads
+use Rattle.plain_key.proofs.u_of.Reads as u-of-reads
+use Rattle.plain_key.proofs.update_key.Reads as update-key-reads
+use Rattle.plain_key.proofs.v_of.Reads as v-of-reads
+use Rattle.plain_key.proofs.v_place.Reads as v-place-reads
 use Rattle.plain.proofs.+encrypt.{statement}
 use Rattle.plain.proofs.+encrypt.Tie.{close}
 

@@ -7,7 +7,8 @@ use lib.ListN.{length}
 use borrow.Author.Needs.{needs}
 use denote.Ref.{now}
 use Rattle.published.specs.Bytes.{fromBytes, toBytes}
-use Rattle.plain.specs.Inner.{stateOf, nibblesOf, Nibbles, keyOf, roundsBy}
+use Rattle.plain_key.specs.Inner.{keyOf}
+use Rattle.plain.specs.Inner.{stateOf, nibblesOf, Nibbles, roundsBy}
 use Rattle.plain.proofs.Nibbles.{nibbles-of, length-nibblesOf}
 use Rattle.plain.proofs.Rounds.{within, block-made}
 use Rattle.plain.proofs.cross.Statement.{statement}

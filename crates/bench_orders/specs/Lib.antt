@@ -1,0 +1,2 @@
+-- What a reader has to believe of the numbers of the four calls.
+pub mod Orders

@@ -1,0 +1,3 @@
+-- The laws, for the reader too.
+pub mod Cutting
+pub mod Judging

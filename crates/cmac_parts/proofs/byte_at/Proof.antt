@@ -1,0 +1,13 @@
+-- `cmac_parts::byte_at`: the byte, or past the end 0, which is what `getD` gives there.
+use mathlib.Core.Path.{sym}
+use borrow.Author.Needs.{needs}
+use lib.ListN.{List·getD-eq-default}
+use denote.Ref.{now}
+use Rattle.cmac_parts.proofs.byte_at.Statement.{statement}
+use Rattle.cmac_parts.proofs.byte_at.Tie as tie
+
+returns-2 : tie.Need-returns-2
+returns-2 c = sym (List·getD-eq-default (now (c .before .args .bytes)) 0 (c .if1 .left))
+
+pub byte-at-spec : {M : Type 1} → statement M
+byte-at-spec = tie.close (tie.spec (λ c. search needs) (λ c. search needs) returns-2)

@@ -1,0 +1,2 @@
+-- What a call has passed that is done, or short of counters.
+pub mod Passing

@@ -1,0 +1,2 @@
+-- The numbers of counter mode's calls.
+pub mod Orders

@@ -1,0 +1,2 @@
+-- The laws, for the crates above.
+pub mod Serving

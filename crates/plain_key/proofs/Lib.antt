@@ -1,0 +1,2 @@
+-- The laws behind the key's part of the plain engine.
+pub mod Keys
