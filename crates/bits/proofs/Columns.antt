@@ -2,7 +2,7 @@
 -- every place, by a test at all sixteen nibbles.
 use mathlib.Core.Path.{_≡_, refl, ap, fun-ext, _∙_}
 use mathlib.Core.Bool.{Bool, true, false, not}
-use mathlib.Core.List.{List, [], _∷_}
+use mathlib.Core.List.{[], _∷_}
 use Prim.Native.Nat.{ℕ, zero, suc, _<_, zero-le}
 use lib.Dec.{T, lit<}
 use lib.ListN.{getD}

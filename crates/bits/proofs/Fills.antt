@@ -1,6 +1,6 @@
 -- A list that is filled one place after the other, at places that a rule names: what was put stays, and nothing is said of the rest. `p i` is the i-th place,
 -- and R i tells which words are right there. With the rule (λ i. i) it is filled upward.
-use mathlib.Core.Path.{_≡_, sym, _∙_}
+use mathlib.Core.Path.{_≡_, _∙_}
 use mathlib.Core.List.{List}
 use Prim.Native.Nat.{ℕ, _+_, _<_}
 use native.Mathlib.Decide.{ℕ-discrete}

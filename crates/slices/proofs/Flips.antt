@@ -1,6 +1,6 @@
 -- Words that are masks; slices into which a mask is xored; the constant of a round, and the round, in every lane.
 use mathlib.Core.Path.{_≡_, refl, sym, ap, ap₂, _∙_}
-use mathlib.Core.Bool.{Bool, true, false, not, cond, _&&_}
+use mathlib.Core.Bool.{Bool, true, false, cond, _&&_}
 use mathlib.Core.List.{List}
 use Prim.Native.Nat.{ℕ, zero, suc, _+_, _-_, _*_, _/_, _%_, _^_, _<_, zero-le}
 use native.Mathlib.Nat.{zero-mul, one-mul}
@@ -11,17 +11,17 @@ use lib.Dec.{T, eqb, ltb, lit<}
 use lib.ListN.{length, getD, set, length-set}
 use lib.Pow.{pow-pos, pow-add}
 use lib.Seq.{getD-set-same, getD-set-other}
-use borrow.Author.Tests.{eq-eqb, ne-eqb, lt-ltb, le-ltb}
+use borrow.Author.Tests.{ne-eqb, lt-ltb, le-ltb}
 use Rattle.bits.specs.Digit.{digit, bit, _⊕_}
 use Rattle.bits.proofs.Bits.{bit-ext, bit-xor, bit-out, ⊕-false, ⊕-assoc, ⊕-comm}
-use Rattle.bits.proofs.Computed.{below, at}
-use Rattle.published.specs.Rounds.{Pair, keyBit, xored, constantBit, round, unround}
+use Rattle.bits.proofs.Computed.{at}
+use Rattle.published.specs.Rounds.{xored, constantBit, round, unround}
 use Rattle.published.specs.Inner.{stepsBack}
 use Rattle.published.proofs.Steps.{width128, bit-xored, xored-lt}
 use Rattle.published.proofs.Undone.{unround-is}
 use Rattle.turning.specs.Slices.{lane}
 use Rattle.turning.proofs.Blocks.{lane-lt, bit-lane}
-use Rattle.slices.specs.Masks.{everywhere, pairIn}
+use Rattle.slices.specs.InnerMasks.{everywhere, pairIn}
 use Rattle.slices.specs.Inner.{Lanes, keyed, unkeyed, constantBits, maskBy}
 
 -- ---- masks

@@ -1,12 +1,9 @@
 -- A group: loaded, taken through the rounds, saved; by any masks, and by those of eighty words.
 use mathlib.Core.Path.{_≡_, sym, ap, ap₂, _∙_}
-use mathlib.Core.Bool.{Bool, true, false, _&&_}
-use mathlib.Core.List.{List, _++_}
+use mathlib.Core.Bool.{Bool, true}
+use mathlib.Core.List.{List}
 use Prim.Native.Nat.{ℕ, _<_}
-use lib.Dec.{eqb}
 use lib.ListN.{length}
-use borrow.Author.Tests.{eqb-true}
-use Rattle.bits.proofs.Truth.{both}
 use Rattle.published.specs.Blocks.{eachOf, joined}
 use Rattle.published.specs.Gift128.{roundsAll}
 use Rattle.published.specs.Rounds.{Pair}
@@ -14,7 +11,7 @@ use Rattle.published.specs.Seen.{readIn, writeIn, seen}
 use Rattle.published.proofs.Groups.{joined-cong, each-joined}
 use Rattle.round_words.specs.Arranged.{pairsFrom}
 use Rattle.turning.specs.Slices.{lane, blockAt, whole}
-use Rattle.slices.specs.Masks.{masksOf, pairsIn, byMasks, fitMasks, fitGroup}
+use Rattle.slices.specs.InnerMasks.{masksOf, pairsIn, byMasks}
 use Rattle.slices.specs.Inner.{Lanes}
 use Rattle.slices.proofs.Keys.{pairs-are}
 
@@ -32,18 +29,5 @@ group-by-words order back masks input words len is =
     (λ b h. ap (λ (ps : List Pair). seen order (roundsAll back ps) (blockAt input b)) (pairs-are words masks is b h len))
     ∙ sym (each-joined 16 (seen order (roundsAll back (pairsFrom 0 words))) 64 input)
 
--- ---- lengths
-
 pub fits-whole : (bytes words : ℕ) → bytes ≡ 1024 → words ≡ 128 → whole bytes words ≡ true
 fits-whole bytes words e f = ap₂ whole e f
-
-pub masks-fit : (words masks : ℕ) → fitMasks words masks ≡ true → (words ≡ 80) × (masks ≡ 2560)
-masks-fit words masks e =
-    let t : (eqb words 80 ≡ true) × (eqb masks 2560 ≡ true) = both (eqb words 80) (eqb masks 2560) e in
-    (eqb-true words 80 (t .0), eqb-true masks 2560 (t .1))
-
-pub group-fits : (masks input output : ℕ) → fitGroup masks input output ≡ true → (masks ≡ 2560) × (input ≡ 1024) × (output ≡ 1024)
-group-fits masks input output e =
-    let s : (eqb masks 2560 ≡ true) × ((eqb input 1024 && eqb output 1024) ≡ true) = both (eqb masks 2560) (eqb input 1024 && eqb output 1024) e in
-    let t : (eqb input 1024 ≡ true) × (eqb output 1024 ≡ true) = both (eqb input 1024) (eqb output 1024) (s .1) in
-    (eqb-true masks 2560 (s .0), eqb-true input 1024 (t .0), eqb-true output 1024 (t .1))

@@ -14,7 +14,7 @@ use Rattle.bits.proofs.Computed.{agree}
 use Rattle.published.specs.Rounds.{P, Pair}
 use Rattle.primitives.specs.Words.{permuted}
 use Rattle.round_words.specs.Arranged.{N, nibbleAt, stands, pairsFrom}
-use Rattle.slices.specs.Masks.{everywhere, maskAt, listed, masksOf, pairIn, pairOf, pairsIn}
+use Rattle.slices.specs.InnerMasks.{everywhere, maskAt, listed, masksOf, pairIn, pairsIn}
 use Rattle.slices.specs.Inner.{maskBy, MasksBy}
 use Rattle.slices.proofs.Flips.{bit-everywhere, mask-is}
 
@@ -34,6 +34,10 @@ getD-listed (suc n) g (suc i) h = getD-listed n (λ i. g (suc i)) i (omega arith
 pub mask-of : (words : List ℕ) (m : ℕ) → m < 2560 → getD (masksOf words) m 0 ≡ maskAt words m
 unfolding masksOf
 mask-of words m h = getD-listed 2560 (maskAt words) m h
+
+pub masks-length : (words : List ℕ) → length (masksOf words) ≡ 2560
+unfolding masksOf
+masks-length words = length-listed 2560 (maskAt words)
 
 -- the masks below k are right, and then all
 abbrev pub MaskAt : List ℕ → ℕ → ℕ → Type 0

@@ -2,8 +2,7 @@
 use mathlib.Core.Path.{_≡_, refl, sym, ap, ap₂, _∙_}
 use mathlib.Core.Bool.{Bool, true, false, _&&_, _||_}
 use mathlib.Core.List.{List, [], _∷_}
-use Prim.Native.Nat.{ℕ, zero, suc, _+_, _*_, _/_, _%_, _<_}
-use native.Mathlib.Nat.{ne-of-lt}
+use Prim.Native.Nat.{ℕ, _+_, _*_, _/_, _%_, _<_}
 use native.Mathlib.Omega.{arith}
 use lib.Bits.{bitXor}
 use lib.Dec.{eqb, lit<}
@@ -13,14 +12,14 @@ use Rattle.bits.proofs.Digits.{digit-lt}
 use Rattle.bits.proofs.Bits.{bit-digit, bit-ext, bit-ofBits, bit-xor, ofBits-lt, ⊕-false}
 use Rattle.bits.proofs.Columns.{nibble-at}
 use Rattle.bits.proofs.Fills.{Fills, fills-put, fills-up, fills-is}
-use Rattle.published.specs.Rounds.{Pair, P, entry, subCells, permBits, xored, keyBit}
+use Rattle.published.specs.Rounds.{P, entry, subCells, permBits, xored, keyBit}
 use Rattle.published.specs.Inner.{back, unentry, unPermBits}
 use Rattle.published.proofs.Steps.{width128, entry-lt, unentry-lt, subCells-lt, bit-subCells, bit-permBits, bit-xored, xored-lt}
 use Rattle.published.proofs.Words.{four}
 use Rattle.turning.specs.Slices.{lane}
 use Rattle.turning.proofs.Blocks.{lane-lt, bit-lane}
 use Rattle.slices.specs.declared.Nibble.{Nibble}
-use Rattle.slices.specs.Masks.{pairIn}
+use Rattle.slices.specs.InnerMasks.{pairIn}
 use Rattle.slices.specs.Inner.{Lanes, wordOf, nibbleIn, Boxed, ScatteredAt, Scattered, keyed, GatheredAt, Gathered, unkeyed}
 
 -- ---- a box, told by its four words

@@ -9,7 +9,7 @@ use Rattle.bits.proofs.Computed.{agree}
 use Rattle.published.specs.Rounds.{step, constant, round, rounds, unround, unrounds}
 use Rattle.published.specs.Gift128.{rounds128, unrounds128}
 use Rattle.turning.specs.Slices.{lane}
-use Rattle.slices.specs.Masks.{pairIn, pairOf, pairsIn}
+use Rattle.slices.specs.InnerMasks.{pairIn, pairOf, pairsIn}
 use Rattle.slices.specs.Inner.{Lanes}
 
 -- ---- the constants, by the table

@@ -11,7 +11,7 @@ use Rattle.published.specs.Rounds.{P, entry, subCells, permBits, xored, keyBit}
 use Rattle.published.specs.Inner.{unentry, unPermBits}
 use Rattle.turning.specs.Slices.{lane}
 use Rattle.slices.specs.declared.Nibble.{Nibble}
-use Rattle.slices.specs.Masks.{pairIn}
+use Rattle.slices.specs.InnerMasks.{pairIn}
 
 -- every lane of y is made of the same lane of x
 pub record Lanes (f : ℕ → ℕ → ℕ) (x y : List ℕ) : Type 0 where

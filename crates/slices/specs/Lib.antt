@@ -1,3 +1,3 @@
--- Round words as masks; and inner, what the steps of a round do to slices.
-pub mod Masks
+-- Inner: round words as masks, and what the steps of a round do to slices.
+pub mod InnerMasks
 pub mod Inner

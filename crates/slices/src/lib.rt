@@ -1,21 +1,23 @@
 // Sixty-four blocks at once, in slices: word q has bit q of every block. Nothing is arranged here: these are the published rounds, bit by bit, as document 01
 // has them, on 64 blocks at a time; P is a matter of which word is written, and the key's bits are masks.
+use eight::groups;
+use eight::in_groups;
 use turning::from_slices;
 use turning::to_slices;
 ghost use mathlib.Core.Path.{_≡_};
-ghost use mathlib.Core.Bool.{true, false, cond};
-ghost use mathlib.Core.List.{List};
+ghost use mathlib.Core.Bool.{cond};
 ghost use Prim.Native.Nat.{ℕ, suc, _+_, _-_, _*_, _/_, _%_, _^_, _<_};
 ghost use lib.ListN.{length, getD};
 ghost use lib.Dec.{eqb};
 ghost use denote.Ref.{now};
-ghost use Rattle.published.specs.Blocks.{eachOf};
+ghost use Rattle.published.specs.Blocks.{allOf};
 ghost use Rattle.published.specs.Gift128.{rounds128, unrounds128, roundsAll};
 ghost use Rattle.published.specs.Rounds.{P, entry, xored, constantBit, constant, round, unround};
 ghost use Rattle.published.specs.Inner.{unentry};
 ghost use Rattle.published.specs.Seen.{seen};
 ghost use Rattle.round_words.specs.Arranged.{pairsFrom, nibbleAt};
-ghost use Rattle.slices.specs.Masks.{masksOf, fitMasks, fitGroup, pairIn, pairOf, pairsIn, byMasks, Grouped};
+ghost use Rattle.eight.specs.Groups.{inGroups};
+ghost use Rattle.slices.specs.InnerMasks.{masksOf, pairIn, pairOf, pairsIn, byMasks};
 ghost use Rattle.slices.specs.Inner.{Lanes, Boxed, Scattered, keyed, Gathered, unkeyed, constantBits, maskBy, MasksBy};
 
 // ---- 1. the S-box
@@ -535,22 +537,10 @@ fn fill_masks(rkey: &[u32], places: &[u32], masks: &mut [u64])
     }
 }
 
-fn are_masks(words: usize, masks: usize) -> bool
-    ensures { λ r. ⌜ r ≡ fitMasks words masks ⌝ }
+fn key_masks(rkey: &[u32], masks: &mut [u64])
+    requires { ⌜ (length (now rkey) ≡ 80) × (length (now masks) ≡ 2560) ⌝ }
+    ensures { λ r. ⌜ now (masks .exit) ≡ masksOf (now (rkey .entry)) ⌝ }
 {
-    if words != 80 {
-        return false;
-    }
-    masks == 2560
-}
-
-// The masks of eighty round words, any eighty. Of other lengths nothing is written.
-pub fn key_masks(rkey: &[u32], masks: &mut [u64])
-    ensures { λ r. ⌜ now (masks .exit) ≡ cond (fitMasks (length (now (rkey .entry))) (length (now (masks .entry)))) (masksOf (now (rkey .entry))) (now (masks .entry)) ⌝ }
-{
-    if !are_masks(rkey.len(), masks.len()) {
-        return;
-    }
     let table = PLACES;
     fill_masks(rkey, &table, masks);
 }
@@ -568,24 +558,37 @@ fn sixty_four(order: u32, masks: &[u64], input: &[u8], output: &mut [u8], back: 
     from_slices(order, &x, output);
 }
 
-fn is_group(masks: usize, input: usize, output: usize) -> bool
-    ensures { λ r. ⌜ r ≡ fitGroup masks input output ⌝ }
+// Groups of sixty-four blocks; the masks are made once for all of them.
+fn wide_groups(order: u32, rkey: &[u32], input: &[u8], output: &mut [u8], back: bool)
+    requires { ⌜ length (now rkey) ≡ 80 ⌝ }
+    requires { ⌜ length (now input) % 1024 ≡ 0 ⌝ }
+    requires { ⌜ length (now output) ≡ length (now input) ⌝ }
+    ensures { λ r. ⌜ now (output .exit) ≡ allOf 16 (seen order (roundsAll back (pairsFrom 0 (now (rkey .entry))))) (now (input .entry)) ⌝ }
 {
-    if masks != 2560 {
-        return false;
+    let mut masks = [0u64; 2560];
+    key_masks(rkey, &mut masks);
+    let mut a: usize = 0;
+    while a < input.len() {
+        let e = a + 1024;
+        sixty_four(order, &masks, &input[a..e], &mut output[a..e], back);
+        a = e;
     }
-    if input != 1024 {
-        return false;
-    }
-    output == 1024
 }
 
-// A group of 64 blocks by masks, forty rounds done or undone. Of other lengths nothing is written.
-pub fn group(order: u32, masks: &[u64], input: &[u8], output: &mut [u8], back: bool)
-    ensures { λ r. ⌜ Grouped order back (now (masks .entry)) (now (input .entry)) (now (output .entry)) (now (output .exit)) ⌝ }
+// ---- whole groups of eight
+
+// What `eight::groups` does, to the same promise: sixty-four blocks at once while there are as many, and then eight.
+pub fn all_groups(order: u32, rkey: &[u32], input: &[u8], output: &mut [u8], back: bool)
+    ensures { λ r. ⌜ now (output .exit) ≡ cond (inGroups order (length (now (rkey .entry))) (length (now (input .entry))) (length (now (output .entry)))) (allOf 16 (seen order (roundsAll back (pairsFrom 0 (now (rkey .entry))))) (now (input .entry))) (now (output .entry)) ⌝ }
 {
-    if !is_group(masks.len(), input.len(), output.len()) {
+    if input.len() < 1024 {
+        groups(order, rkey, input, output, back);
         return;
     }
-    sixty_four(order, masks, input, output, back);
+    if !in_groups(order, rkey.len(), input.len(), output.len()) {
+        return;
+    }
+    let m = input.len() - input.len() % 1024;
+    wide_groups(order, rkey, &input[0..m], &mut output[0..m], back);
+    groups(order, rkey, &input[m..], &mut output[m..], back);
 }

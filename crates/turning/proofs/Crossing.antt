@@ -1,15 +1,15 @@
 -- One exchange between two words, a level of four of them on eight words, and three levels: where the bit at a place comes from.
 use mathlib.Core.Path.{_≡_, refl, sym, ap, ap₂, _∙_}
 use mathlib.Core.Bool.{Bool, true, false, not, cond, _&&_}
-use mathlib.Core.List.{List, [], _∷_}
+use mathlib.Core.List.{[], _∷_}
 use Prim.Native.Nat.{ℕ, zero, suc, _+_, _-_, _*_, _/_, _%_, _^_, _≤_, _<_}
 use native.Mathlib.Nat.{mul-add-div-right, div-eq-of-lt, one-mul, mul-zero, mul-one, add-zero, sub-zero}
 use native.Mathlib.Decide.{decLe}
 use native.Mathlib.Omega.{arith}
 use lib.Bits.{bitAnd, bitXor}
-use lib.Dec.{T, eqb, eqb→eq, ltb, ltb→lt, leb, lit<}
+use lib.Dec.{T, eqb, eqb→eq, ltb, ltb→lt}
 use lib.ListN.{getD}
-use borrow.Author.Tests.{le-leb, lt-leb, eq-eqb, ne-eqb}
+use borrow.Author.Tests.{le-leb, lt-leb}
 use Rattle.bits.specs.Digit.{bit, _⊕_}
 use Rattle.bits.proofs.Bits.{bit-ofBits, bit-shr, bit-shl-cut, bit-and, bit-xor, ⊕-false}
 use Rattle.bits.proofs.Computed.{below, at, and-left, and-right}

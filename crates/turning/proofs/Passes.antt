@@ -9,7 +9,7 @@ use Rattle.bits.specs.Digit.{bit}
 use Rattle.bits.proofs.Fills.{Fills, fills-up, fills-is, fills-none}
 use Rattle.turning.specs.declared.Eight.{Eight}
 use Rattle.turning.specs.Inner.{wordOf, EightTurned, Passed, byteFrom, byteTo, bitFrom, bitTo, eightAt, eightPut, Turned, Halves, Placed, inwardIn, outwardIn, pairwise}
-use Rattle.turning.proofs.Crossing.{eight, two}
+use Rattle.turning.proofs.Crossing.{eight}
 
 -- ---- 128 words, the first k of them right
 

@@ -8,10 +8,4 @@ returns : tie.Need-returns
 returns c = let second = c .before .before in let first = second .before .before .before .before in constant-added _ (first .six-bits .ensures) (second .highest .ensures)
 
 pub add-constant-spec : {M : Type 1} → statement M
-add-constant-spec =
-    tie.close
-    (tie.spec
-    (λ c κs. search needs)
-    (λ c κs. search needs)
-    (λ c. search needs)
-    returns)
+add-constant-spec = tie.close (tie.spec (λ c κs. search needs) (λ c κs. search needs) (λ c. search needs) returns)

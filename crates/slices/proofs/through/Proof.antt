@@ -12,12 +12,4 @@ done c = rw (c .before .before .before .before .before .before .before .if1 .lef
 pub through-spec : {M : Type 1} → statement M
 through-spec =
     tie.close
-    (tie.spec
-    (λ c κs. search needs)
-    (λ c κs. search needs)
-    (λ c. search needs)
-    (λ c. search needs)
-    undone
-    (λ c. search needs)
-    (λ c. search needs)
-    done)
+    (tie.spec (λ c κs. search needs) (λ c κs. search needs) (λ c. search needs) (λ c. search needs) undone (λ c. search needs) (λ c. search needs) done)

@@ -1,6 +1,6 @@
 -- `slices::unforty`: two rounds a turn.
 use mathlib.Core.Path.{_≡_, refl, _∙_}
-use Prim.Native.Nat.{ℕ, suc, _+_, _-_, _*_, _%_, _≤_, _<_}
+use Prim.Native.Nat.{suc, _-_, _%_, _≤_, _<_}
 use native.Mathlib.Omega.{arith}
 use lib.ListN.{length}
 use Rattle.slices.proofs.Rounding.{Undone, undone-none, undone-more, undone-all, constant-at, constant-next}
@@ -36,19 +36,5 @@ returns c = let l = c .before .loop in undone-all (c .before .before .before .be
 pub unforty-spec : {M : Type 1} → statement M
 unforty-spec =
     tie.close
-    (tie.spec
-    Inv-loop
-    μ-loop
-    loop-holds
-    (λ c. omega arith)
-    (λ c. omega arith)
-    (λ c. omega arith)
-    (λ c. omega arith)
-    (λ c. omega arith)
-    (λ c. omega arith)
-    asks
-    (λ c. omega arith)
-    loop-again
-    (λ c. omega arith)
-    (λ c. omega arith)
+    (tie.spec Inv-loop μ-loop loop-holds (λ c. omega arith) (λ c. omega arith) (λ c. omega arith) (λ c. omega arith) (λ c. omega arith) (λ c. omega arith) asks (λ c. omega arith) loop-again (λ c. omega arith) (λ c. omega arith)
     returns)

@@ -1,5 +1,5 @@
 -- `turning::bytes_turned`: three levels, and the test of their places.
-use mathlib.Core.Path.{_≡_, refl}
+use mathlib.Core.Path.{refl}
 use lib.Dec.{lit<}
 use Rattle.bits.specs.Digit.{ofBits, number}
 use Rattle.turning.specs.Inner.{lower, byteFrom, byteTo}
@@ -29,17 +29,5 @@ pub bytes-turned-spec : {M : Type 1} → statement M
 unfolding lower ofBits number
 bytes-turned-spec =
     tie.close
-    (tie.spec
-    (λ c κs. (lit< tt, lit< tt, refl))
-    (λ c κs. (lit< tt, lit< tt, refl))
-    (λ c κs. (lit< tt, lit< tt, refl))
-    (λ c κs. (lit< tt, lit< tt, refl))
-    (λ c κs. (lit< tt, lit< tt, refl))
-    (λ c κs. (lit< tt, lit< tt, refl))
-    (λ c κs. (lit< tt, lit< tt, refl))
-    (λ c κs. (lit< tt, lit< tt, refl))
-    (λ c κs. (lit< tt, lit< tt, refl))
-    (λ c κs. (lit< tt, lit< tt, refl))
-    (λ c κs. (lit< tt, lit< tt, refl))
-    (λ c κs. (lit< tt, lit< tt, refl))
-    returns)
+    (tie.spec (λ c κs. (lit< tt, lit< tt, refl)) (λ c κs. (lit< tt, lit< tt, refl)) (λ c κs. (lit< tt, lit< tt, refl)) (λ c κs. (lit< tt, lit< tt, refl)) (λ c κs. (lit< tt, lit< tt, refl)) (λ c κs. (lit< tt, lit< tt, refl))
+    (λ c κs. (lit< tt, lit< tt, refl)) (λ c κs. (lit< tt, lit< tt, refl)) (λ c κs. (lit< tt, lit< tt, refl)) (λ c κs. (lit< tt, lit< tt, refl)) (λ c κs. (lit< tt, lit< tt, refl)) (λ c κs. (lit< tt, lit< tt, refl)) returns)

@@ -1,9 +1,5 @@
 -- `turning::cross`: its words, bit by bit.
-use mathlib.Core.Path.{_≡_}
-use Prim.Native.Nat.{ℕ, _/_, _*_, _%_, _^_}
-use lib.Bits.{bitAnd, bitXor}
 use borrow.Author.Needs.{needs}
-use Rattle.turning.specs.Inner.{Crossed}
 use Rattle.turning.proofs.Crossing.{crosses}
 use Rattle.turning.proofs.cross.Statement.{statement}
 use Rattle.turning.proofs.cross.Tie as tie

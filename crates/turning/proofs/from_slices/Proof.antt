@@ -17,11 +17,4 @@ returns : tie.Need-returns-2
 returns c = c .before .before .unslice .ensures ∙ sym (cond-true _ _ _ (told-true (c .before .before .before .before .before .is-whole .ensures) (c .before .before .before .before .if1 .left)))
 
 pub from-slices-spec : {M : Type 1} → statement M
-from-slices-spec =
-    tie.close
-    (tie.spec
-    (λ c κs. search needs)
-    refused
-    asks
-    (λ c. search needs)
-    returns)
+from-slices-spec = tie.close (tie.spec (λ c κs. search needs) refused asks (λ c. search needs) returns)

@@ -1,9 +1,5 @@
 -- `turning::is_whole`: both lengths.
-use mathlib.Core.Path.{_≡_, refl, sym, ap, _∙_}
-use mathlib.Core.Bool.{Bool, _&&_}
-use lib.Dec.{eqb}
 use borrow.Author.Tests.{ne-eqb, eq-eqb}
-use Rattle.turning.specs.Slices.{whole}
 use Rattle.turning.proofs.is_whole.Statement.{statement}
 use Rattle.turning.proofs.is_whole.Tie as tie
 

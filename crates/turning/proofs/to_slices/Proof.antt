@@ -21,11 +21,4 @@ returns c =
     record { lanes = λ _. c .before .before .slice .ensures; stays = λ e. absurd (false≢true (sym e ∙ yes)) }
 
 pub to-slices-spec : {M : Type 1} → statement M
-to-slices-spec =
-    tie.close
-    (tie.spec
-    (λ c κs. search needs)
-    refused
-    asks
-    (λ c. search needs)
-    returns)
+to-slices-spec = tie.close (tie.spec (λ c κs. search needs) refused asks (λ c. search needs) returns)

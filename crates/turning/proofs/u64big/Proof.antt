@@ -1,6 +1,6 @@
 -- `turning::u64big`: the test finds each of its bits in one of the bytes.
-use mathlib.Core.List.{List, [], _∷_}
-use Prim.Native.Nat.{ℕ, _-_, _/_, _%_}
+use mathlib.Core.List.{[], _∷_}
+use Prim.Native.Nat.{_-_, _/_, _%_}
 use Rattle.bits.proofs.Reflect.{W, var, or, shl, atom, bit-by-test}
 use Rattle.turning.proofs.u64big.Statement.{statement}
 use Rattle.turning.proofs.u64big.Tie as tie

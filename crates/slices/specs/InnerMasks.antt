@@ -1,16 +1,14 @@
--- Eighty round words as masks: for each bit of a word a word of 64 bits, all ones or all zeros, so that 64 blocks are keyed at once.
-use mathlib.Core.Path.{_≡_}
-use mathlib.Core.Bool.{Bool, true, false, cond, _&&_}
+-- Inner: eighty round words as masks: for each bit of a word a word of 64 bits, all ones or all zeros, so that 64 blocks are keyed at once.
+use mathlib.Core.Bool.{Bool, cond}
 use mathlib.Core.List.{List, [], _∷_}
 use Prim.Native.Nat.{ℕ, zero, suc, _+_, _*_, _/_, _%_}
-use lib.Dec.{eqb}
-use lib.ListN.{length, take, drop, getD}
+use lib.ListN.{take, drop, getD}
 use Rattle.bits.specs.Digit.{bit, ofBits}
-use Rattle.published.specs.Blocks.{eachOf, joined}
+use Rattle.published.specs.Blocks.{joined}
 use Rattle.published.specs.Gift128.{roundsAll}
 use Rattle.published.specs.Rounds.{Pair}
 use Rattle.published.specs.Seen.{seen}
-use Rattle.round_words.specs.Arranged.{stands, pairsFrom}
+use Rattle.round_words.specs.Arranged.{stands}
 use Rattle.turning.specs.Slices.{blockAt}
 
 -- a truth value in all 64 places
@@ -47,20 +45,3 @@ pairsIn masks b (suc k) r = pairOf masks r b ∷ pairsIn masks b k (suc r)
 -- 64 blocks, each by the pairs in its lane
 abbrev pub byMasks : (order : ℕ) (back : Bool) (masks input : List ℕ) → List ℕ
 byMasks order back masks input = joined 64 (λ b. seen order (roundsAll back (pairsIn masks b 40 0)) (blockAt input b))
-
--- ---- the calls
-
--- a call for masks, and for a group of 64 blocks by masks, whose lengths are right
-abbrev pub fitMasks : (words masks : ℕ) → Bool
-fitMasks words masks = eqb words 80 && eqb masks 2560
-
-abbrev pub fitGroup : (masks input output : ℕ) → Bool
-fitGroup masks input output = eqb masks 2560 && (eqb input 1024 && eqb output 1024)
-
--- What a group leaves: by the masks of eighty words, each block by the pairs that the words stand for, block i of the answer from block i of the input;
--- by any masks, each by the pairs in its lane; of other lengths, the output as it was.
-pub record Grouped (order : ℕ) (back : Bool) (masks input out₀ out : List ℕ) : Type 0 where
-  pub by-words : (words : List ℕ) → length words ≡ 80 → masks ≡ masksOf words → fitGroup (length masks) (length input) (length out₀) ≡ true
-      → out ≡ eachOf 16 (seen order (roundsAll back (pairsFrom 0 words))) 64 input
-  pub by-masks : fitGroup (length masks) (length input) (length out₀) ≡ true → out ≡ byMasks order back masks input
-  pub stays : fitGroup (length masks) (length input) (length out₀) ≡ false → out ≡ out₀

@@ -1,4 +1,4 @@
--- `counter::key_blocks`: the blocks before place a are written.
+-- `counter::key_blocks_by`: the blocks before place a are written.
 use mathlib.Core.Path.{_≡_, refl, sym, ap, _∙_}
 use mathlib.Core.List.{List}
 use Prim.Native.Nat.{ℕ, _+_, _-_, _/_, _%_, _≤_}
@@ -12,18 +12,18 @@ use Rattle.gift128.specs.Calls.{encryptedBy}
 use Rattle.counter.specs.Standard.{keyBlocks}
 use Rattle.counter.proofs.Blocks.{blocks-none}
 use Rattle.counter.proofs.Chunks.{first-of, some-of, in-front, encrypts-many, several-more}
-use Rattle.counter.proofs.key_blocks.Statement.{statement}
-use Rattle.counter.proofs.key_blocks.Tie as tie
+use Rattle.counter.proofs.key_blocks_by.Statement.{statement}
+use Rattle.counter.proofs.key_blocks_by.Tie as tie
 
 abbrev Inv-loop : tie.InvT-loop
-Inv-loop words nonce counter output₀ blocks₀ a₀ output blocks a =
-    (a % 16 ≡ 0) × (a ≤ length output₀) × (length output₀ % 16 ≡ 0) × (length output ≡ length output₀) × (length blocks ≡ 512) × (take a output ≡ keyBlocks (encryptedBy words) nonce counter (a / 16))
+Inv-loop words nonce counter blocks₀ output₀ a₀ blocks output a =
+    (a % 16 ≡ 0) × (a ≤ length output₀) × (length output₀ % 16 ≡ 0) × (length output ≡ length output₀) × (length blocks ≡ length blocks₀) × (take a output ≡ keyBlocks (encryptedBy words) nonce counter (a / 16))
 
 abbrev μ-loop : tie.MeasureT-loop
-μ-loop words nonce counter output₀ blocks₀ a₀ output blocks a = length output₀ - a
+μ-loop words nonce counter blocks₀ output₀ a₀ blocks output a = length output₀ - a
 
 loop-holds : tie.Need-loop-holds Inv-loop μ-loop
-loop-holds c = (refl, omega arith, c .before .before .before .pre .1 .1 .1, refl, search needs, sym (blocks-none _ _ _))
+loop-holds c = (refl, omega arith, c .before .before .before .pre .1 .1 .1, refl, refl, sym (blocks-none _ _ _))
 
 counter-blocks-requires : tie.Need-counter-blocks-requires Inv-loop μ-loop
 counter-blocks-requires c κs =
@@ -71,8 +71,8 @@ returns c =
     let all : l .a ≡ length (now (start .args .output)) = omega arith in
     sym (take-all (l .a) (l .output) (omega arith)) ∙ l .inv .5 ∙ ap (λ (n : ℕ). keyBlocks (encryptedBy (now (start .args .words))) (now (start .args .nonce)) (start .args .counter) (n / 16)) all
 
-pub key-blocks-spec : {M : Type 1} → statement M
-key-blocks-spec =
+pub key-blocks-by-spec : {M : Type 1} → statement M
+key-blocks-by-spec =
     tie.close
     (tie.spec Inv-loop μ-loop loop-holds (λ c. omega arith) (λ c κs. (omega arith, omega arith)) (λ c. omega arith) (λ c. omega arith) (λ c. omega arith) (λ c. omega arith) (λ c. omega arith) counter-blocks-requires
     (λ c. omega arith) (λ c. omega arith) part-encrypt-blocks-by-words-end (λ c. omega arith) (λ c. omega arith) (λ c. omega arith) (λ c κs. tt) (λ c. omega arith) loop-again (λ c. c .before .loop .inv .3) returns)
