@@ -141,13 +141,7 @@ fn at_once(left: usize, room: usize) -> usize
 }
 
 // Whole blocks, as many as there is room for: counter blocks side by side in a buffer that is lent, and those through the cipher's call on many blocks.
-fn key_blocks_by(
-    words: &[u32],
-    nonce: &[u8],
-    counter: usize,
-    blocks: &mut [u8],
-    output: &mut [u8],
-)
+fn key_blocks_by(words: &[u32], nonce: &[u8], counter: usize, blocks: &mut [u8], output: &mut [u8])
     requires { ⌜ length (now words) ≡ 80 ⌝ }
     requires { ⌜ length (now nonce) ≡ 12 ⌝ }
     requires { ⌜ counter < counters ⌝ }
