@@ -159,7 +159,7 @@ fn key_blocks_by(words: &[u32], nonce: &[u8], counter: usize, blocks: &mut [u8],
     }
 }
 
-// By a small buffer while the cipher goes through its blocks eight at once, and by a larger one where it takes sixty-four: four times as many, since it makes
+// By a small buffer while the cipher goes through its blocks eight at once, and by a larger one where it takes sixty-four: five times as many, since it makes
 // masks of the words anew for each buffer.
 fn key_blocks(words: &[u32], nonce: &[u8], counter: usize, output: &mut [u8])
     requires { ⌜ length (now words) ≡ 80 ⌝ }
@@ -173,7 +173,7 @@ fn key_blocks(words: &[u32], nonce: &[u8], counter: usize, output: &mut [u8])
         key_blocks_by(words, nonce, counter, &mut few, output);
         return;
     }
-    let mut many = [0u8; 4096];
+    let mut many = [0u8; 5120];
     key_blocks_by(words, nonce, counter, &mut many, output);
 }
 
