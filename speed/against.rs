@@ -231,12 +231,12 @@ fn main() {
     println!("{:44} {:>12} {:>12} {:>8}   wanted", "least ticks of the time stamp counter", "ours", "the crate", "ratio");
     let mut all = true;
     for (way, back) in [("encrypt", false), ("decrypt", true)] {
-        all &= told(&format!("64 KiB by a key, {way}"), held.many(back, 65536, passes / 10), 0.31);
-        all &= told(&format!("64 KiB by words, {way}"), held.many_by_words(back, 65536, passes / 10), 0.31);
+        all &= told(&format!("64 KiB by a key, {way}"), held.many(back, 65536, passes / 10), 0.22);
+        all &= told(&format!("64 KiB by words, {way}"), held.many_by_words(back, 65536, passes / 10), 0.22);
     }
     for (way, back) in [("encrypt", false), ("decrypt", true)] {
-        for n in [128, 256, 1024] {
-            all &= told(&format!("{n} bytes by a key, {way}"), held.many(back, n, passes), 0.45);
+        for (n, wanted) in [(128, 0.45), (256, 0.45), (1008, 0.45), (1024, 0.45), (4096, 0.25)] {
+            all &= told(&format!("{n} bytes by a key, {way}"), held.many(back, n, passes), wanted);
         }
         // of every length between two groups and a bit, the worst
         let worst = (8..=33).map(|blocks| (16 * blocks, held.many(back, 16 * blocks, passes / 4))).max_by(|a, b| (a.1 .0 / a.1 .1).total_cmp(&(b.1 .0 / b.1 .1))).unwrap();

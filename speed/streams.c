@@ -1,4 +1,4 @@
-/* What counter mode costs beside the cipher's own call on many blocks: a piece of 64 KiB, and pieces of one byte; and the stack of both calls.
+/* What counter mode costs beside the cipher's own call on many blocks: a piece of 64 KiB, and pieces of one byte; and the stack of both.
  * `speed/streams` builds and runs it.
  *
  * A time is read from the processor's time stamp counter: the least and the median of many passes, the calls taken by turns. */
@@ -40,6 +40,10 @@ static int bytes(size_t len)
 static void starting(void) { kept = gift_stream_start(key, sizeof key, nonce, sizeof nonce, 0).stream; }
 static volatile uint32_t told;
 static void feeding(void) { told = gift_stream_piece(&stream, message, 40, output, 40); }
+static void feeding_much(void) { told = gift_stream_piece(&stream, message, MOST, output, MOST); }
+static void below_a_group(void) { told = gift_encrypt_blocks(GIFT_ORDER_NUMBER, key, sizeof key, message, 1008, output, 1008); }
+static void many(void) { told = gift_encrypt_blocks(GIFT_ORDER_NUMBER, key, sizeof key, message, MOST, output, MOST); }
+static void many_back(void) { told = gift_decrypt_blocks(GIFT_ORDER_WORDS, key, sizeof key, message, MOST, output, MOST); }
 static void nothing(void) {}
 
 static uint64_t timed(int (*call)(size_t), size_t len, int *right)
@@ -91,6 +95,12 @@ int main(void)
     }
     stream = kept;
     depth(nothing);
-    printf("\nstack: a start %lu bytes, a piece %lu\n", (unsigned long)(depth(starting) - depth(nothing) + 8), (unsigned long)(depth(feeding) - depth(nothing) + 8));
+    const struct {
+        const char *name;
+        void (*call)(void);
+    } stacks[] = {{"a start", starting}, {"a piece of 40 bytes", feeding}, {"a piece of 64 KiB", feeding_much}, {"many blocks, 1,008 bytes", below_a_group}, {"many blocks, 64 KiB", many}, {"decrypting, order 1", many_back}};
+    printf("\nstack, bytes:\n");
+    for (unsigned i = 0; i < sizeof stacks / sizeof *stacks; i++)
+        printf("%26s %7lu\n", stacks[i].name, (unsigned long)(depth(stacks[i].call) - depth(nothing) + 8));
     return !right;
 }

@@ -79,7 +79,9 @@ static uint32_t up_to(uint32_t limit)
 /* ---- what is lent: a part of a room, with canaries before and after it ---- */
 
 #define CANARIES 64
-#define ROOM (RECORDS * sizeof(gift_lane) + 3 * CANARIES)
+#define LONGEST 65680 /* bytes that are lent at most; a record has fewer */
+#define ROOM (LONGEST + 3 * CANARIES)
+_Static_assert(RECORDS * sizeof(gift_lane) <= LONGEST, "room for the records");
 
 typedef struct {
     const char *name;
@@ -229,15 +231,25 @@ static void expand(void)
     hold(EXPAND, number, must);
 }
 
+/* What calls on long inputs are held to, after the walk. */
+static int fixed;
+static size_t fixed_length;
+static uint32_t fixed_order;
+
 /* Of fewer blocks than a group of eight, and of up to three groups with any rest. */
 static size_t some_blocks(void)
 {
-    return 16 * (below(2) ? below(6) : below(28));
+    return fixed ? fixed_length : 16 * (below(2) ? below(6) : below(28));
+}
+
+static uint32_t some_order(void)
+{
+    return fixed ? fixed_order : up_to(1);
 }
 
 static void many(unsigned direction)
 {
-    uint32_t number, must, order = up_to(1);
+    uint32_t number, must, order = some_order();
     lend(&keys, "key", length(16), 1);
     lend(&blocks, "input", length(some_blocks()), 1);
     lend(&outputs, "output", length(blocks.length), 1);
@@ -252,7 +264,7 @@ static void many(unsigned direction)
 
 static void many_by_words(unsigned direction)
 {
-    uint32_t number, must, some[80], order = up_to(1);
+    uint32_t number, must, some[80], order = some_order();
     lend(&words, "words", length(80), 4);
     lend(&blocks, "input", length(some_blocks()), 1);
     lend(&outputs, "output", length(blocks.length), 1);
@@ -678,7 +690,7 @@ static void stream_piece(void)
 {
     uint32_t number, must;
     lend(&streams, "stream", 1, sizeof stream);
-    lend(&blocks, "input", below(4) ? below(40) : 16 * below(5), 1);
+    lend(&blocks, "input", fixed ? fixed_length : below(4) ? below(40) : 16 * below(5), 1);
     lend(&outputs, "output", length(blocks.length), 1);
     memcpy(part(&streams), &stream, sizeof stream);
     must = stream_piece_number(&stream, blocks.length, outputs.length);
@@ -708,6 +720,41 @@ static void on_a_stream(void)
     stream_piece();
     if (damaged)
         stream.unused = right;
+}
+
+/* ---- long inputs: lengths round a group of 64 blocks, two of them, and 64 KiB ---- */
+
+static unsigned long_ones;
+
+static void long_inputs(void)
+{
+    static const size_t lengths[] = {1008, 1024, 1040, 1072, 1136, 1152, 1280, 2032, 2048, 2064, 5136, 65520, 65536, 65552, 65664};
+    fixed = 1;
+    mischief = 0;
+    for (unsigned i = 0; i < sizeof lengths / sizeof *lengths; i++)
+        for (unsigned direction = 0; direction < 2; direction++)
+            for (fixed_order = 0; fixed_order < 2; fixed_order++) {
+                fixed_length = lengths[i];
+                if (fixed_length < 65520 || fixed_order == direction)
+                    many(direction), long_ones++;
+                if (fixed_length < 65520 || fixed_order != direction)
+                    many_by_words(direction), long_ones++;
+            }
+    /* and in counter mode, each with no byte unused and with five */
+    for (unsigned i = 0; i < sizeof lengths / sizeof *lengths; i++)
+        for (unsigned odd = 0; odd < 2; odd++) {
+            uint8_t own[28];
+            for (unsigned k = 0; k < sizeof own; k++)
+                own[k] = (uint8_t)next();
+            model_stream_start(&stream, own, own + 16, below(1000));
+            fixed_length = 11;
+            if (odd)
+                stream_piece();
+            fixed_length = lengths[i] + odd;
+            stream_piece();
+            long_ones++;
+        }
+    fixed = 0;
 }
 
 /* ---- GIFT-64 ---- */
@@ -847,6 +894,7 @@ int main(void)
         mischief = below(8) < 5 ? 0 : below(4) ? 2 : 5;
         rows(below(2));
     }
+    long_inputs();
 
     printf("%-30s", "number given back:");
     for (unsigned number = 0; number < NUMBERS; number++)
@@ -870,6 +918,7 @@ int main(void)
     printf("%u checks said yes; %u tags of states were those of the whole message; %u stored tags\n", yeses, whole_tags, known_tags());
     printf("%u streams were the host's; %u pieces were served by one that is spent\n", forged, spent_served);
     printf("%u rows of words or pairs were made what they were of again\n", same_again);
+    printf("%u calls were on lengths round 1,024 bytes and 64 KiB\n", long_ones);
     printf("%u calls, %u differences\n", calls, differences);
     return differences > 0;
 }

@@ -4,7 +4,7 @@
 #include <string.h>
 #include "../../include/gift_host.h"
 
-enum { DEEP = 24 * 1024 };
+enum { DEEP = 40 * 1024 };
 
 static uint8_t key[GIFT_KEY_SIZE] = {0x9e, 0x37, 0x79, 0xb9, 0x7f, 0x4a, 0x7c, 0x15, 0xf3, 0x9c, 0xc0, 0x60, 0x5c, 0xed, 0xc8, 0x34};
 static uint8_t block[GIFT_BLOCK_SIZE], tag[GIFT_TAG_SIZE];

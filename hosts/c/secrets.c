@@ -6,7 +6,7 @@
 #include <valgrind/memcheck.h>
 #include "../../include/gift_host.h"
 
-enum { LONG = 13 * GIFT_BLOCK_SIZE };
+enum { LONG = (64 + 8 + 5) * GIFT_BLOCK_SIZE }; /* a group of sixty-four blocks, one of eight, and some more */
 
 static void secret(void *bytes, size_t n)
 {

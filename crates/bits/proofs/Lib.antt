@@ -6,3 +6,5 @@ pub mod Computed
 pub mod Reflect
 pub mod Pointwise
 pub mod Filling
+pub mod Columns
+pub mod Fills

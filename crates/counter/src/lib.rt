@@ -127,18 +127,39 @@ fn counter_blocks(nonce: &[u8], counter: usize, blocks: &mut [u8])
     }
 }
 
-// How many bytes of key stream are made at once: all that are left, and no more than 512.
-fn at_once(left: usize) -> usize
+// How many bytes of key stream are made at once: all that are left, and no more than there is room for.
+fn at_once(left: usize, room: usize) -> usize
     requires { ⌜ (0 < left) × (left % 16 ≡ 0) ⌝ }
-    ensures { λ r. ⌜ (0 < r) × (r % 16 ≡ 0) × (r ≤ left) × (r ≤ 512) ⌝ }
+    requires { ⌜ (0 < room) × (room % 16 ≡ 0) ⌝ }
+    ensures { λ r. ⌜ (0 < r) × (r % 16 ≡ 0) × (r ≤ left) × (r ≤ room) ⌝ }
 {
-    if left < 512 {
+    if left < room {
         return left;
     }
-    512
+    room
 }
 
-// Whole blocks, as many as there is room for: counter blocks side by side, and those through the cipher's call on many blocks.
+// Whole blocks, as many as there is room for: counter blocks side by side in a buffer that is lent, and those through the cipher's call on many blocks.
+fn key_blocks_by(words: &[u32], nonce: &[u8], counter: usize, blocks: &mut [u8], output: &mut [u8])
+    requires { ⌜ length (now words) ≡ 80 ⌝ }
+    requires { ⌜ length (now nonce) ≡ 12 ⌝ }
+    requires { ⌜ counter < counters ⌝ }
+    requires { ⌜ (0 < length (now blocks)) × (length (now blocks) % 16 ≡ 0) ⌝ }
+    requires { ⌜ length (now output) % 16 ≡ 0 ⌝ }
+    ensures { λ r. ⌜ now (output .exit) ≡ keyBlocks (encryptedBy (now (words .entry))) (now (nonce .entry)) counter (length (now (output .entry)) / 16) ⌝ }
+{
+    let mut a: usize = 0;
+    while a < output.len() {
+        let n = at_once(output.len() - a, blocks.len());
+        let e = a + n;
+        counter_blocks(nonce, counter + a / 16, &mut blocks[0..n]);
+        encrypt_blocks_by_words(NUMBER, words, &blocks[0..n], &mut output[a..e]);
+        a = e;
+    }
+}
+
+// By a small buffer while the cipher goes through its blocks eight at once, and by a larger one where it takes sixty-four: five times as many, since it makes
+// masks of the words anew for each buffer.
 fn key_blocks(words: &[u32], nonce: &[u8], counter: usize, output: &mut [u8])
     requires { ⌜ length (now words) ≡ 80 ⌝ }
     requires { ⌜ length (now nonce) ≡ 12 ⌝ }
@@ -146,15 +167,13 @@ fn key_blocks(words: &[u32], nonce: &[u8], counter: usize, output: &mut [u8])
     requires { ⌜ length (now output) % 16 ≡ 0 ⌝ }
     ensures { λ r. ⌜ now (output .exit) ≡ keyBlocks (encryptedBy (now (words .entry))) (now (nonce .entry)) counter (length (now (output .entry)) / 16) ⌝ }
 {
-    let mut blocks = [0u8; 512];
-    let mut a: usize = 0;
-    while a < output.len() {
-        let n = at_once(output.len() - a);
-        let e = a + n;
-        counter_blocks(nonce, counter + a / 16, &mut blocks[0..n]);
-        encrypt_blocks_by_words(NUMBER, words, &blocks[0..n], &mut output[a..e]);
-        a = e;
+    if output.len() < 1024 {
+        let mut few = [0u8; 512];
+        key_blocks_by(words, nonce, counter, &mut few, output);
+        return;
     }
+    let mut many = [0u8; 5120];
+    key_blocks_by(words, nonce, counter, &mut many, output);
 }
 
 // The start of a block, less than all of it. The block stays; none is made for no bytes.

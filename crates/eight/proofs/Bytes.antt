@@ -1,8 +1,8 @@
--- From bytes to bytes: one block more of those that are put, a block that went through a lane, and one group more of those that are done.
-use mathlib.Core.Path.{_≡_, refl, sym, ap, ap₂, _∙_}
+-- From bytes to bytes: one block more of those that are put, a block that went through a lane, and a group.
+use mathlib.Core.Path.{_≡_, refl, sym, ap, _∙_}
 use mathlib.Core.Bool.{Bool}
 use mathlib.Core.List.{List, _++_}
-use Prim.Native.Nat.{ℕ, zero, suc, _+_, _-_, _*_, _/_, _%_, _^_, _≤_, _<_}
+use Prim.Native.Nat.{ℕ, zero, suc, _+_, _*_, _^_, _≤_, _<_}
 use native.Mathlib.Numerals.{add-one}
 use native.Mathlib.Omega.{arith}
 use lib.ListN.{length, take, drop, length-take, length-drop}
@@ -12,8 +12,7 @@ use Rattle.published.specs.Seen.{Order, readIn, writeIn, seen}
 use Rattle.published.specs.Gift128.{roundsAll}
 use Rattle.published.proofs.Gift128.{rounds-all-lt}
 use Rattle.published.proofs.Reading.{bytes-take, bytes-drop}
-use Rattle.published.proofs.Many.{written}
-use Rattle.published.proofs.Groups.{joined-put, joined-cong, each-joined, each-add, each-take}
+use Rattle.published.proofs.Groups.{joined-put, joined-cong, each-joined}
 use Rattle.published.proofs.Seen.{orders}
 use Rattle.primitives.specs.declared.State.{State}
 use Rattle.primitives.specs.Packed.{blockOf, stateOf}
@@ -72,15 +71,3 @@ group-is order back ws input e r s t u len h reads arrives goes leaves puts =
     through-lane order back ws (take 16 (drop (16 * k) input)) (simp (length-take, length-drop) (omega arith)) (bytes-take 16 (drop (16 * k) input) (bytes-drop (16 * k) input h))
     (laneAt r k) (laneAt s k) (laneAt t k) (laneAt u k) (reads .lane k l) (arrives .lane k l) (goes .lane k l) (leaves .lane k l))
     ∙ sym (each-joined 16 (seen order (roundsAll back (pairsFrom 0 ws))) 8 input)
-
--- the group at place a was written: the blocks before a + 128 are
-pub group-more : (f : List ℕ → List ℕ) (input out new rest : List ℕ) (a : ℕ) → a % 128 ≡ 0 → a ≤ length out → length new ≡ 128
-    → take a out ≡ eachOf 16 f (a / 16) input → new ≡ eachOf 16 f 8 (take (a + 128 - a) (drop a input)) → take (a + 128) (take a out ++ (new ++ rest)) ≡ eachOf 16 f ((a + 128) / 16) input
-group-more f input out new rest a h l len before here =
-    let at : a ≡ 16 * (a / 16) = omega arith in
-    let whole : a + 128 - a ≡ 16 * 8 = omega arith in
-    let next : a / 16 + 8 ≡ (a + 128) / 16 = omega arith in
-    written 128 a out new rest l len
-    ∙ ap₂ _++_ before (here ∙ ap (λ (k : ℕ). eachOf 16 f 8 (take k (drop a input))) whole ∙ each-take 16 f 8 (drop a input) ∙ ap (λ (k : ℕ). eachOf 16 f 8 (drop k input)) at)
-    ∙ sym (each-add 16 f (a / 16) 8 input)
-    ∙ ap (λ (n : ℕ). eachOf 16 f n input) next

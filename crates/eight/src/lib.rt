@@ -316,7 +316,7 @@ fn group(order: u32, rkey: &[u32], input: &[u8], output: &mut [u8], back: bool)
 }
 
 // Whether there is such an order, there are eighty words, the input is whole groups and the output as long.
-fn in_groups(order: u32, words: usize, input: usize, output: usize) -> bool
+pub fn in_groups(order: u32, words: usize, input: usize, output: usize) -> bool
     ensures { λ r. ⌜ r ≡ inGroups order words input output ⌝ }
 {
     if !is_order(order) {

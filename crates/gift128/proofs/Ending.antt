@@ -1,20 +1,10 @@
--- Many blocks that are done in two parts: the first m bytes, and then the rest from m on, or from a place before it.
-use mathlib.Core.Path.{_≡_, refl, sym, ap, ap₂, _∙_}
+-- Whether what is left over is done as the last eight blocks.
+use mathlib.Core.Path.{_≡_, sym, ap}
 use mathlib.Core.Bool.{Bool, true, false, _&&_}
-use mathlib.Core.List.{List, _++_, append-nil}
-use Prim.Native.Nat.{ℕ, zero, suc, _+_, _-_, _*_, _/_, _%_, _≤_, _<_}
-use native.Mathlib.Nat.{le-of-eq}
-use native.Mathlib.Omega.{arith}
+use Prim.Native.Nat.{ℕ, _-_, _≤_, _<_}
 use lib.Dec.{leb}
-use lib.ListN.{length, take, drop, length-append, length-take, length-drop, drop-of-length-le}
-use lib.Seq.{take-at, take-take, take-all}
 use borrow.Author.Tests.{le-leb, lt-leb, leb-true}
-use borrow.Rule.Slice.PartMut.{putMid}
 use Rattle.bits.proofs.Truth.{both}
-use Rattle.published.specs.Blocks.{eachOf, allOf}
-use Rattle.published.proofs.Groups.{each-add, each-take}
-
--- ---- whether the rest is done as eight
 
 module _ (n m : ℕ) where
   pub too-short : n < 128 → false ≡ leb 128 n && leb 48 (n - m)
@@ -25,54 +15,3 @@ module _ (n m : ℕ) where
 
   pub eight-there : leb 128 n && leb 48 (n - m) ≡ true → 128 ≤ n
   eight-there e = leb-true 128 n (both (leb 128 n) (leb 48 (n - m)) e .0)
-
--- ---- blocks that have sixteen bytes each
-
-module _ (f : List ℕ → List ℕ) (sixteen : (l : List ℕ) → length (f l) ≡ 16) where
-  each-length : (n : ℕ) (input : List ℕ) → length (eachOf 16 f n input) ≡ 16 * n
-  unfolding eachOf
-  each-length zero input = refl
-  each-length (suc n) input =
-      let next : 16 + 16 * n ≡ 16 * suc n = omega arith in
-      length-append (f (take 16 input)) (eachOf 16 f n (drop 16 input)) ∙ ap₂ _+_ (sixteen (take 16 input)) (each-length n (drop 16 input)) ∙ next
-
-  -- the first of several
-  each-front : (j k : ℕ) (input : List ℕ) → take (16 * j) (eachOf 16 f (j + k) input) ≡ eachOf 16 f j input
-  each-front j k input = ap (take (16 * j)) (each-add 16 f j k input) ∙ take-at (eachOf 16 f j input) (eachOf 16 f k (drop (16 * j) input)) (16 * j) (each-length j input)
-
-  -- the rest, written from place e on
-  pub ended : (input out new : List ℕ) (e m : ℕ) → e % 16 ≡ 0 → m % 16 ≡ 0 → e ≤ m → m ≤ length input → length input % 16 ≡ 0 → length out ≡ length input
-      → take m out ≡ eachOf 16 f (m / 16) input → new ≡ allOf 16 f (take (length input - e) (drop e input)) → putMid e (length out - e) out new ≡ allOf 16 f input
-  unfolding allOf
-  ended input out new e m he hm less inside whole len before here =
-      let at : 16 * (e / 16) ≡ e = omega arith in
-      let count : m / 16 ≡ e / 16 + (m - e) / 16 = omega arith in
-      let total : length input / 16 ≡ e / 16 + (length input - e) / 16 = omega arith in
-      let all : length (drop e input) ≤ length input - e = rw length-drop (le-of-eq refl) in
-      let short : length (drop e out) ≤ length out - e = rw length-drop (le-of-eq refl) in
-      let blocks : length (drop e input) / 16 ≡ (length input - e) / 16 = rw length-drop in
-      let front : take e out ≡ eachOf 16 f (e / 16) input =
-      sym (take-take e m out less) ∙ ap (take e) (before ∙ ap (λ (n : ℕ). eachOf 16 f n input) count)
-      ∙ ap (λ (n : ℕ). take n (eachOf 16 f (e / 16 + (m - e) / 16) input)) (sym at) ∙ each-front (e / 16) ((m - e) / 16) input in
-      let back : new ≡ eachOf 16 f ((length input - e) / 16) (drop (16 * (e / 16)) input) =
-      here ∙ ap (λ (l : List ℕ). eachOf 16 f (length l / 16) l) (take-all (length input - e) (drop e input) all)
-      ∙ ap₂ (λ (n k : ℕ). eachOf 16 f n (drop k input)) blocks (sym at) in
-      ap₂ (λ (a b : List ℕ). a ++ (b ++ drop (length out - e) (drop e out))) front back
-      ∙ ap (λ (l : List ℕ). eachOf 16 f (e / 16) input ++ (eachOf 16 f ((length input - e) / 16) (drop (16 * (e / 16)) input) ++ l)) (drop-of-length-le (drop e out) short)
-      ∙ ap (λ (l : List ℕ). eachOf 16 f (e / 16) input ++ l) (append-nil (eachOf 16 f ((length input - e) / 16) (drop (16 * (e / 16)) input)))
-      ∙ sym (each-add 16 f (e / 16) ((length input - e) / 16) input)
-      ∙ ap (λ (n : ℕ). eachOf 16 f n input) (sym total)
-
-pub part-length : (l : List ℕ) (m : ℕ) → m % 16 ≡ 0 → length l % 16 ≡ 0 → length (take (length l - m) (drop m l)) % 16 ≡ 0
-part-length l m h whole = simp (length-take, length-drop) (omega arith)
-
--- the first m bytes, written
-pub first-part : (f : List ℕ → List ℕ) (input out new : List ℕ) (m : ℕ) → m % 16 ≡ 0 → m ≤ length input → length out ≡ length input → length new ≡ m
-    → new ≡ allOf 16 f (take (m - 0) input) → take m (putMid 0 (m - 0) out new) ≡ eachOf 16 f (m / 16) input
-unfolding allOf
-first-part f input out new m h inside len long here =
-    let none : m - 0 ≡ m = omega arith in
-    let at : m ≡ 16 * (m / 16) = omega arith in
-    let count : length (take m input) / 16 ≡ m / 16 = rw length-take (omega arith) in
-    take-at new (drop (m - 0) out) m long ∙ here ∙ ap (λ (k : ℕ). eachOf 16 f (length (take k input) / 16) (take k input)) none
-    ∙ ap₂ (λ (n k : ℕ). eachOf 16 f n (take k input)) count at ∙ each-take 16 f (m / 16) input

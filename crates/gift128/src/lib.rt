@@ -16,6 +16,7 @@ use primitives::State;
 use quintuple::first_round;
 use quintuple::inv_quintuples;
 use quintuple::quintuples;
+use slices::all_groups;
 ghost use mathlib.Core.Path.{_≡_};
 ghost use mathlib.Core.Bool.{true, false, _&&_};
 ghost use Prim.Native.Nat.{_+_, _-_, _/_, _%_, _≤_, _<_};
@@ -246,7 +247,7 @@ fn rest(order: u32, rkey: &[u32], input: &[u8], output: &mut [u8], m: usize, bac
     singles(order, rkey, &input[m..], &mut output[m..], back);
 }
 
-// Whole groups of eight blocks at once, and then what is left over. (What takes more blocks at once would go before.)
+// Whole groups of eight blocks, sixty-four at once while there are as many; and then what is left over.
 fn all(order: u32, rkey: &[u32], input: &[u8], output: &mut [u8], back: bool)
     requires { ⌜ isOrder order ≡ true ⌝ }
     requires { ⌜ length (now rkey) ≡ 80 ⌝ }
@@ -255,7 +256,7 @@ fn all(order: u32, rkey: &[u32], input: &[u8], output: &mut [u8], back: bool)
     ensures { λ r. ⌜ now (output .exit) ≡ allBlocks (seen order (roundsBy back (now (rkey .entry)))) (now (input .entry)) ⌝ }
 {
     let m = input.len() - input.len() % 128;
-    groups(order, rkey, &input[0..m], &mut output[0..m], back);
+    all_groups(order, rkey, &input[0..m], &mut output[0..m], back);
     rest(order, rkey, input, output, m, back);
 }
 

@@ -88,7 +88,7 @@ fn half_at(input: &[u8], at: usize) -> u64
     (four_at(input, at) as u64) * 0x100000000 + (four_at(input, at + 4) as u64)
 }
 
-fn bytes(x: u64) -> [u8; 8]
+pub fn bytes(x: u64) -> [u8; 8]
     ensures { λ r. ⌜ r ≡ toBytes 8 x ⌝ }
 {
     [

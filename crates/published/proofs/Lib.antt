@@ -11,6 +11,7 @@ pub mod Calls
 pub mod Calls64
 pub mod Many
 pub mod Groups
+pub mod Parts
 pub mod Listed
 pub mod Words
 pub mod Seen

@@ -137,7 +137,7 @@ module _ (bytes : List ℕ) (len : length bytes ≡ 16) (h : Bytes bytes) where
       place : 4 * j + (3 - i / 8) ≡ length bytes - 1 - (32 * (3 - j) + i) / 8
       place = omega arith
 
-  inwards : readWords bytes ≡ placed inward (fromBytes bytes)
+  pub inwards : readWords bytes ≡ placed inward (fromBytes bytes)
   unfolding readWords
   inwards =
       bit-ext 128 (readWords bytes) (placed inward (fromBytes bytes)) (fromWords-lt (wordAt bytes)) (ofBits-lt 128 (λ q. bit (fromBytes bytes) (inward q)))
@@ -145,7 +145,7 @@ module _ (bytes : List ℕ) (len : length bytes ≡ 16) (h : Bytes bytes) where
       bit-fromWords (wordAt bytes) q l ∙ bit-wordAt (q % 4) (q / 4) (omega arith) (omega arith)
       ∙ sym (bit-ofBits 128 (λ q. bit (fromBytes bytes) (inward q)) q l))
 
-outwards : (x : ℕ) → x < 2 ^ 128 → writeWords x ≡ toBytes 16 (placed outward x)
+pub outwards : (x : ℕ) → x < 2 ^ 128 → writeWords x ≡ toBytes 16 (placed outward x)
 outwards x h =
     let y : ℕ = fromBytes (writeWords x) in
     let len : length (writeWords x) ≡ 16 = words-order .sixteen x in

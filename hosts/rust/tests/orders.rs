@@ -184,8 +184,9 @@ fn records_of_no_order() {
 fn many_blocks_are_each_by_itself_in_either_order() {
     let cipher = Gift128::new(&KEY);
     for order in [Order::Number, Order::Words] {
-        for n in 0..80 {
-            let plain: Vec<[u8; 16]> = (0..n).map(|i| [i as u8 * 3 + 1; 16]).collect();
+        // every length up to a group of sixty-four and some more, and lengths round two groups and 64 KiB
+        for n in (0..80).chain(126..138).chain(4094..4098) {
+            let plain: Vec<[u8; 16]> = (0..n).map(|i: u128| (i.wrapping_mul(0x30000_00000000_00000000_00000005) + 1).to_be_bytes()).collect();
             let mut singly = plain.clone();
             for block in &mut singly {
                 cipher.encrypt_block_in(order, block);

@@ -14,9 +14,9 @@ use Rattle.published.specs.Gift128.{roundsAll}
 use Rattle.published.specs.Seen.{isOrder, seen}
 use Rattle.published.proofs.Many.{each-none, one-part}
 use Rattle.published.proofs.Groups.{all-written}
+use Rattle.published.proofs.Parts.{group-more}
 use Rattle.round_words.specs.Arranged.{pairsFrom}
 use Rattle.eight.proofs.Answers.{grouped}
-use Rattle.eight.proofs.Bytes.{group-more}
 use Rattle.eight.proofs.groups.Statement.{statement}
 use Rattle.eight.proofs.groups.Tie as tie
 
@@ -61,7 +61,7 @@ loop-again c =
       omega arith,
       omega arith,
       same-len-mid (q .a) (q .a + 128 - q .a) (q .output) (call .last .1 .1 .1 .0) (call .kept .1 .1 .1 .0) ∙ q .inv .6,
-      group-more (seen (a .order) (roundsAll (a .back) (pairsFrom 0 (now (a .rkey))))) input (q .output) (call .last .1 .1 .1 .0) _ (q .a) (q .inv .4) (omega arith) len (q .inv .7) (call .ensures),
+      group-more 8 128 refl (seen (a .order) (roundsAll (a .back) (pairsFrom 0 (now (a .rkey))))) input (q .output) (call .last .1 .1 .1 .0) _ (q .a) (omega arith) (omega arith) len (q .inv .7) (call .ensures),
     )
 
 same-length : tie.Need-same-length Inv-loop μ-loop

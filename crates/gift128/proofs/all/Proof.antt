@@ -1,5 +1,5 @@
 -- `gift128::all`: whole groups, and then the rest.
-use mathlib.Core.Path.{_≡_, sym, _∙_}
+use mathlib.Core.Path.{_≡_, _∙_}
 use mathlib.Core.List.{List}
 use Prim.Native.Nat.{ℕ, _-_, _%_}
 use native.Mathlib.Omega.{arith}
@@ -9,15 +9,15 @@ use borrow.Rule.Slice.PartMut.{same-len-mid}
 use denote.Ref.{now}
 use Rattle.bits.proofs.Computed.{cond-true}
 use Rattle.published.specs.Seen.{seen}
+use Rattle.published.proofs.Parts.{first-part}
 use Rattle.eight.proofs.Answers.{are-grouped}
 use Rattle.gift128.specs.Calls.{roundsBy}
-use Rattle.gift128.proofs.Ending.{first-part}
 use Rattle.gift128.proofs.all.Statement.{statement}
 use Rattle.gift128.proofs.all.Tie as tie
 
 rest-requires : tie.Need-rest-requires
 rest-requires c κs =
-    let call = c .before .before .before .groups in
+    let call = c .before .before .before .all-groups in
     let start = c .before .before .before .before .before .before .before .before .before in
     let a = start .args in
     let input : List ℕ = now (a .input) in

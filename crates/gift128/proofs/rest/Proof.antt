@@ -10,9 +10,10 @@ use denote.Ref.{now}
 use Rattle.bits.proofs.Computed.{cond-true}
 use Rattle.published.specs.Seen.{seen}
 use Rattle.published.proofs.Seen.{orders}
+use Rattle.published.proofs.Parts.{ended, part-length}
 use Rattle.eight.proofs.Answers.{are-grouped}
 use Rattle.gift128.specs.Calls.{roundsBy}
-use Rattle.gift128.proofs.Ending.{eight-there, ended, part-length}
+use Rattle.gift128.proofs.Ending.{eight-there}
 use Rattle.gift128.proofs.rest.Statement.{statement}
 use Rattle.gift128.proofs.rest.Tie as tie
 

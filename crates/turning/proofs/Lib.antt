@@ -1,0 +1,4 @@
+-- The laws.
+pub mod Crossing
+pub mod Passes
+pub mod Blocks
