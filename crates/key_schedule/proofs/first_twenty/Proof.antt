@@ -8,7 +8,7 @@ use Rattle.key_schedule.specs.declared.Four.{Four}
 use Rattle.key_schedule.specs.InnerUpdate.{updated}
 use Rattle.key_schedule.specs.InnerHalves.{lowOf, highOf, joined, inBoth}
 use Rattle.key_schedule.specs.InnerTens.{fiveRounds, fiveLater}
-use Rattle.key_schedule.proofs.Halves.{low-joined, high-joined, both-joined}
+use Rattle.key_schedule.proofs.Halves.{low-joined, high-joined}
 use Rattle.key_schedule.proofs.Updates.{updated-lt}
 use Rattle.key_schedule.proofs.TenWords.{same-twenty}
 use Rattle.key_schedule.proofs.first_twenty.Statement.{statement}
