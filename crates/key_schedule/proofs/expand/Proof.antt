@@ -1,11 +1,11 @@
 -- `key_schedule::expand` leaves the eighty words of the key.
-use mathlib.Core.Path.{ap, _∙_}
+use mathlib.Core.Path.{_≡_, ap, _∙_}
 use mathlib.Core.List.{_++_}
 use lib.ListN.{length}
 use borrow.Author.Needs.{needs}
 use Rattle.key_schedule.specs.declared.Four.{Four}
 use Rattle.key_schedule.specs.declared.Twenty.{Twenty}
-use Rattle.key_schedule.specs.InnerTens.{fiveRounds, fiveLater, tenFurther}
+use Rattle.key_schedule.specs.InnerTens.{fiveRounds, fiveLater, tenLater, tenFurther}
 use Rattle.key_schedule.specs.InnerTwenty.{joinedTens, inBothTens, wordsIn}
 use Rattle.key_schedule.proofs.Parts.{four-parts}
 use Rattle.key_schedule.proofs.Expanded.{twenties-expanded}
@@ -27,7 +27,8 @@ returns c =
     let w0 = s1 .store .ensures in
     let w1 = s2 .store2 .ensures ∙ ap wordsIn b in
     let w2 = s3 .store-later .ensures in
-    let w3 = s4 .store-later2 .ensures ∙ ap (λ (t : Twenty). wordsIn (inBothTens tenFurther t)) b in
+    let w3 : s4 .store-later2 .last .0 ≡ wordsIn (inBothTens tenFurther (inBothTens tenLater a)) =
+    s4 .store-later2 .ensures ∙ ap (λ (t : Twenty). wordsIn (inBothTens tenFurther t)) b in
     four-parts (start .args .rkey .now) (s1 .store .last .0) (s2 .store2 .last .0) (s3 .store-later .last .0) (s4 .store-later2 .last .0) (start .pre .1)
     (ap length w0) (ap length w1) (ap length w2)
     ∙ (λ i. w0 i ++ (w1 i ++ (w2 i ++ w3 i)))
