@@ -1,13 +1,13 @@
--- From bytes to bytes: one block more of those that are put, a block that went through a lane, and a group.
+-- From bytes to bytes: one block more of those that are put, a block that went through a lane, and four of them.
 use mathlib.Core.Path.{_≡_, refl, sym, ap, _∙_}
 use mathlib.Core.Bool.{Bool}
 use mathlib.Core.List.{List, _++_}
-use Prim.Native.Nat.{ℕ, zero, suc, _+_, _*_, _^_, _≤_, _<_}
+use Prim.Native.Nat.{ℕ, zero, suc, _+_, _*_, _/_, _^_, _≤_, _<_}
 use native.Mathlib.Numerals.{add-one}
 use native.Mathlib.Omega.{arith}
 use lib.ListN.{length, take, drop, length-take, length-drop}
 use Rattle.published.specs.Bytes.{Bytes}
-use Rattle.published.specs.Blocks.{eachOf, joined}
+use Rattle.published.specs.Blocks.{eachOf, allOf, joined}
 use Rattle.published.specs.Seen.{Order, readIn, writeIn, seen}
 use Rattle.published.specs.Gift128.{roundsAll}
 use Rattle.published.proofs.Gift128.{rounds-all-lt}
@@ -59,15 +59,18 @@ through-lane order back ws bs len h r s t u e f g k =
     out-of-order order (roundsAll back (pairsFrom 0 ws) y) (rounds-all-lt back (pairsFrom 0 ws) y y-lt) t u
     (g ∙ ap (forty back ws) (in-order order bs len h r s e f) ∙ ap (λ (z : ℕ). stateOf (roundsAll back (pairsFrom 0 ws) z)) (blockOf-stateOf y y-lt)) k
 
--- ---- eight blocks
+-- ---- four blocks
 
-pub group-is : (order : ℕ) (back : Bool) (ws input e : List ℕ) (r s t u : Lanes) → length input ≡ 128 → Bytes input
-    → Holds (λ k. packed 1 (take 16 (drop (16 * k) input))) r → Each (arriving order) r s → Each (forty back ws) s t → Each (leaving order) t u
-    → e ≡ joined 8 (λ k. writeIn 1 (blockOf (laneAt u k))) → e ≡ eachOf 16 (seen order (roundsAll back (pairsFrom 0 ws))) 8 input
-group-is order back ws input e r s t u len h reads arrives goes leaves puts =
-    puts
-    ∙ joined-cong 8 _ _
+pub four-are : (order : ℕ) (back : Bool) (ws input e : List ℕ) (s t : Lanes) → length input ≡ 64 → Bytes input
+    → Holds (λ k. arriving order (packed 1 (take 16 (drop (16 * k) input)))) s → Each (forty back ws) s t
+    → e ≡ joined 4 (λ k. writeIn 1 (blockOf (leaving order (laneAt t k)))) → e ≡ allOf 16 (seen order (roundsAll back (pairsFrom 0 ws))) input
+unfolding allOf
+four-are order back ws input e s t len h takes goes gives =
+    let four : 4 ≡ length input / 16 = omega arith in
+    gives
+    ∙ joined-cong 4 _ _
     (λ k l.
     through-lane order back ws (take 16 (drop (16 * k) input)) (simp (length-take, length-drop) (omega arith)) (bytes-take 16 (drop (16 * k) input) (bytes-drop (16 * k) input h))
-    (laneAt r k) (laneAt s k) (laneAt t k) (laneAt u k) (reads .lane k l) (arrives .lane k l) (goes .lane k l) (leaves .lane k l))
-    ∙ sym (each-joined 16 (seen order (roundsAll back (pairsFrom 0 ws))) 8 input)
+    _ (laneAt s k) (laneAt t k) _ refl (takes .lane k l) (goes .lane k l) refl)
+    ∙ sym (each-joined 16 (seen order (roundsAll back (pairsFrom 0 ws))) 4 input)
+    ∙ ap (λ (n : ℕ). eachOf 16 (seen order (roundsAll back (pairsFrom 0 ws))) n input) four

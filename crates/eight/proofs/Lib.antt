@@ -4,3 +4,4 @@ pub mod Turned
 pub mod Rounds
 pub mod Bytes
 pub mod Answers
+pub mod Parts

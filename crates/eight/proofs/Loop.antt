@@ -1,4 +1,4 @@
--- The law of a loop over eight lanes, four lists at once: those before n hold what they are to hold, the others what they held first.
+-- The law of a loop over lanes, four lists at once: those before n hold what they are to hold, the others what they held first.
 use mathlib.Core.Path.{_≡_, refl, sym, ap, _∙_}
 use mathlib.Core.List.{List}
 use Prim.Native.Nat.{ℕ, _+_, _≤_, _<_}

@@ -1,6 +1,6 @@
--- Inner: eight states, kept word by word in four lists, and what a function does in every lane.
+-- Inner: four states, kept word by word in four lists, what a function does in every lane, and fours of them side by side.
 use mathlib.Core.Path.{_≡_}
-use mathlib.Core.Bool.{Bool}
+use mathlib.Core.Bool.{Bool, true}
 use mathlib.Core.List.{List}
 use Prim.Native.Nat.{ℕ, zero, suc, _<_}
 use lib.ListN.{getD}
@@ -13,6 +13,7 @@ use Rattle.round_words.specs.Arranged.{pairsFrom}
 use Rattle.quintuple.specs.declared.Part.{Part}
 use Rattle.quintuple.specs.Inner.{unfiveOf}
 use Rattle.eight.specs.declared.Lanes.{Lanes}
+use Rattle.eight.specs.declared.Three.{Three}
 
 -- the state of lane k
 abbrev pub stateAt : (a b c d : List ℕ) → ℕ → State
@@ -21,13 +22,19 @@ stateAt a b c d k = record { s0 = getD a k 0; s1 = getD b k 0; s2 = getD c k 0; 
 abbrev pub laneAt : Lanes → ℕ → State
 laneAt s k = stateAt (s .a) (s .b) (s .c) (s .d) k
 
--- lane k holds g k, in each of the eight
+-- lane k holds g k, in each of the four
 pub record Holds (g : ℕ → State) (r : Lanes) : Type 0 where
-  pub lane : (k : ℕ) → k < 8 → laneAt r k ≡ g k
+  pub lane : (k : ℕ) → k < 4 → laneAt r k ≡ g k
 
--- each of the eight states has gone through f
+-- each of the four states has gone through f
 abbrev pub Each : (State → State) → Lanes → Lanes → Type 0
 Each f s = Holds (λ k. f (laneAt s k))
+
+-- fours that have gone through f, the third where it is wanted
+pub record Through (f : State → State) (third : Bool) (s r : Three) : Type 0 where
+  pub x-gone : Each f (s .x) (r .x)
+  pub y-gone : Each f (s .y) (r .y)
+  pub z-gone : third ≡ true → Each f (s .z) (r .z)
 
 -- the state of the block that one order reads of the bytes that another wrote
 abbrev pub rewritten : (from to : ℕ) → State → State

@@ -1,5 +1,5 @@
-// Eight blocks at once: the cipher's rounds in eight lanes, which the compiler puts into wide registers. A group is 128 bytes; what is left over after the
-// groups is the caller's. Each loop here is a function of its own whose body calls one function at one place: so it is that the compiler makes it wide.
+// Many blocks at once: the cipher's rounds in four lanes, which the compiler puts into wide registers, and two or three such fours side by side, which the processor
+// overlaps. Each loop here is a function of its own whose body calls one function at one place: so it is that the compiler makes it wide.
 use packing::NUMBER;
 use packing::is_order;
 use packing::packing_words;
@@ -12,10 +12,11 @@ use quintuple::inv_by_part;
 use quintuple::part_at;
 ghost use mathlib.Core.Path.{_≡_};
 ghost use mathlib.Core.Bool.{true, false, cond};
-ghost use Prim.Native.Nat.{_*_, _%_};
+ghost use Prim.Native.Nat.{_*_, _%_, _≤_};
+ghost use lib.Dec.{leb};
 ghost use lib.ListN.{length, take, drop};
 ghost use denote.Ref.{now};
-ghost use Rattle.published.specs.Blocks.{eachOf, allOf, joined};
+ghost use Rattle.published.specs.Blocks.{allOf, joined};
 ghost use Rattle.published.specs.Gift128.{roundsAll};
 ghost use Rattle.published.specs.Seen.{isOrder, writeIn, seen};
 ghost use Rattle.primitives.specs.Packed.{blockOf};
@@ -23,14 +24,14 @@ ghost use Rattle.round_words.specs.Arranged.{pairsFrom};
 ghost use Rattle.packing.specs.Packing.{packed};
 ghost use Rattle.quintuple.specs.Inner.{fiveOf};
 ghost use Rattle.eight.specs.Groups.{inGroups};
-ghost use Rattle.eight.specs.Inner.{Holds, Each, laneAt, rewritten, arriving, leaving, undone, forty, crossed};
+ghost use Rattle.eight.specs.Inner.{Holds, Each, Through, laneAt, rewritten, arriving, leaving, undone, forty, crossed};
 
-// Eight states, word by word: the words s0 of all of them, s1, s2 and s3. Four arrays, because a wide register then has the same word of several lanes.
+// Four states, word by word: the words s0 of all of them, s1, s2 and s3. Four arrays, because a wide register then has the same word of several lanes.
 struct Lanes {
-    a: [u32; 8],
-    b: [u32; 8],
-    c: [u32; 8],
-    d: [u32; 8],
+    a: [u32; 4],
+    b: [u32; 4],
+    c: [u32; 4],
+    d: [u32; 4],
 }
 
 // ---- order 0: the bits of a block that was read as four words move to their places
@@ -105,7 +106,7 @@ fn each_gathered(s: Lanes) -> Lanes
     let mut b = s.b;
     let mut c = s.c;
     let mut d = s.d;
-    for l in 0..8 {
+    for l in 0..4 {
         let x = State {
             s0: a[l],
             s1: b[l],
@@ -128,7 +129,7 @@ fn each_scattered(s: Lanes) -> Lanes
     let mut b = s.b;
     let mut c = s.c;
     let mut d = s.d;
-    for l in 0..8 {
+    for l in 0..4 {
         let x = State {
             s0: a[l],
             s1: b[l],
@@ -151,7 +152,7 @@ fn each_round(s: Lanes, p: Part) -> Lanes
     let mut b = s.b;
     let mut c = s.c;
     let mut d = s.d;
-    for l in 0..8 {
+    for l in 0..4 {
         let x = State {
             s0: a[l],
             s1: b[l],
@@ -174,7 +175,7 @@ fn each_unround(s: Lanes, p: Part) -> Lanes
     let mut b = s.b;
     let mut c = s.c;
     let mut d = s.d;
-    for l in 0..8 {
+    for l in 0..4 {
         let x = State {
             s0: a[l],
             s1: b[l],
@@ -190,63 +191,95 @@ fn each_unround(s: Lanes, p: Part) -> Lanes
     Lanes { a, b, c, d }
 }
 
+// ---- two fours or three
+
+struct Three {
+    x: Lanes,
+    y: Lanes,
+    z: Lanes,
+}
+
+// The third four where there is one.
+fn some_round(on: bool, s: Lanes, p: Part) -> Lanes
+    ensures { λ r. ⌜ (on ≡ true → Each (fiveOf p) s r) ⌝ }
+{
+    if on {
+        return each_round(s, p);
+    }
+    s
+}
+
+fn some_unround(on: bool, s: Lanes, p: Part) -> Lanes
+    ensures { λ r. ⌜ (on ≡ true → Each (undone p) s r) ⌝ }
+{
+    if on {
+        return each_unround(s, p);
+    }
+    s
+}
+
 // ---- the forty rounds
 
-// The words of a quintuple and its constants are read before the lanes are gone through. The first quintuple stands before the loop: a function that is
-// called at two places stays one, and its lanes are handed over whole; put into the loop they were taken apart, word by word, after every quintuple.
-fn encrypt_lanes(s: Lanes, rkey: &[u32]) -> Lanes
+// The words of a quintuple and its constants are read once for all lanes.
+fn encrypt_lanes(s: Three, rkey: &[u32], third: bool) -> Three
     requires { ⌜ length (now rkey) ≡ 80 ⌝ }
-    ensures { λ r. ⌜ Each (forty false (now (rkey .entry))) s r ⌝ }
+    ensures { λ r. ⌜ Through (forty false (now (rkey .entry))) third s r ⌝ }
 {
-    let first = part_at(rkey, 0);
-    let mut t = each_round(s, first);
-    let mut i: usize = 5;
+    let mut x = s.x;
+    let mut y = s.y;
+    let mut z = s.z;
+    let mut i: usize = 0;
     while i < 40 {
         let at = 2 * i;
         let p = part_at(&rkey[at..], i);
-        t = each_round(t, p);
+        x = each_round(x, p);
+        y = each_round(y, p);
+        z = some_round(third, z, p);
         i += 5;
     }
-    t
+    Three { x, y, z }
 }
 
-fn decrypt_lanes(s: Lanes, rkey: &[u32]) -> Lanes
+fn decrypt_lanes(s: Three, rkey: &[u32], third: bool) -> Three
     requires { ⌜ length (now rkey) ≡ 80 ⌝ }
-    ensures { λ r. ⌜ Each (forty true (now (rkey .entry))) s r ⌝ }
+    ensures { λ r. ⌜ Through (forty true (now (rkey .entry))) third s r ⌝ }
 {
-    let last = part_at(&rkey[70..], 35);
-    let mut t = each_unround(s, last);
-    let mut i: usize = 35;
+    let mut x = s.x;
+    let mut y = s.y;
+    let mut z = s.z;
+    let mut i: usize = 40;
     while 0 < i {
         i -= 5;
         let at = 2 * i;
-        let q = part_at(&rkey[at..], i);
-        t = each_unround(t, q);
+        let p = part_at(&rkey[at..], i);
+        x = each_unround(x, p);
+        y = each_unround(y, p);
+        z = some_unround(third, z, p);
     }
-    t
+    Three { x, y, z }
 }
 
-fn through(s: Lanes, rkey: &[u32], back: bool) -> Lanes
+fn through(s: Three, rkey: &[u32], back: bool, third: bool) -> Three
     requires { ⌜ length (now rkey) ≡ 80 ⌝ }
-    ensures { λ r. ⌜ Each (forty back (now (rkey .entry))) s r ⌝ }
+    ensures { λ r. ⌜ Through (forty back (now (rkey .entry))) third s r ⌝ }
 {
     if back {
-        return decrypt_lanes(s, rkey);
+        return decrypt_lanes(s, rkey, third);
     }
-    encrypt_lanes(s, rkey)
+    encrypt_lanes(s, rkey, third)
 }
 
 // ---- bytes: read and put as order 1 has them, in which no bit moves
 
 fn read(input: &[u8]) -> Lanes
-    requires { ⌜ length (now input) ≡ 128 ⌝ }
+    requires { ⌜ length (now input) ≡ 64 ⌝ }
     ensures { λ r. ⌜ Holds (λ k. packed 1 (take 16 (drop (16 * k) (now (input .entry))))) r ⌝ }
 {
-    let mut a = [0u32; 8];
-    let mut b = [0u32; 8];
-    let mut c = [0u32; 8];
-    let mut d = [0u32; 8];
-    for l in 0..8 {
+    let mut a = [0u32; 4];
+    let mut b = [0u32; 4];
+    let mut c = [0u32; 4];
+    let mut d = [0u32; 4];
+    for l in 0..4 {
         let at = 16 * l;
         let e = at + 16;
         let t = packing_words(&input[at..e]);
@@ -259,14 +292,14 @@ fn read(input: &[u8]) -> Lanes
 }
 
 fn put(s: Lanes, output: &mut [u8])
-    requires { ⌜ length (now output) ≡ 128 ⌝ }
-    ensures { λ r. ⌜ now (output .exit) ≡ joined 8 (λ k. writeIn 1 (blockOf (laneAt s k))) ⌝ }
+    requires { ⌜ length (now output) ≡ 64 ⌝ }
+    ensures { λ r. ⌜ now (output .exit) ≡ joined 4 (λ k. writeIn 1 (blockOf (laneAt s k))) ⌝ }
 {
     let a = s.a;
     let b = s.b;
     let c = s.c;
     let d = s.d;
-    for n in 0..8 {
+    for n in 0..4 {
         let x = State {
             s0: a[n],
             s1: b[n],
@@ -300,22 +333,51 @@ fn leave(order: u32, s: Lanes) -> Lanes
     s
 }
 
+// Four blocks of the input, as the order has them, and put.
+fn taken(order: u32, input: &[u8]) -> Lanes
+    requires { ⌜ isOrder order ≡ true ⌝ }
+    requires { ⌜ length (now input) ≡ 64 ⌝ }
+    ensures { λ r. ⌜ Holds (λ k. arriving order (packed 1 (take 16 (drop (16 * k) (now (input .entry)))))) r ⌝ }
+{
+    arrive(order, read(input))
+}
+
+fn given(order: u32, s: Lanes, output: &mut [u8])
+    requires { ⌜ isOrder order ≡ true ⌝ }
+    requires { ⌜ length (now output) ≡ 64 ⌝ }
+    ensures { λ r. ⌜ now (output .exit) ≡ joined 4 (λ k. writeIn 1 (blockOf (leaving order (laneAt s k)))) ⌝ }
+{
+    put(leave(order, s), output);
+}
+
 // ---- groups
 
-// Eight blocks.
+// From four to twelve blocks: the first four, the last four and, if there are more than eight, the four after the first. What they have in common is done twice,
+// to the same bytes.
 fn group(order: u32, rkey: &[u32], input: &[u8], output: &mut [u8], back: bool)
     requires { ⌜ isOrder order ≡ true ⌝ }
     requires { ⌜ length (now rkey) ≡ 80 ⌝ }
-    requires { ⌜ length (now input) ≡ 128 ⌝ }
-    requires { ⌜ length (now output) ≡ 128 ⌝ }
-    ensures { λ r. ⌜ now (output .exit) ≡ eachOf 16 (seen order (roundsAll back (pairsFrom 0 (now (rkey .entry))))) 8 (now (input .entry)) ⌝ }
+    requires { ⌜ (length (now input) % 16 ≡ 0) × (64 ≤ length (now input)) × (length (now input) ≤ 192) ⌝ }
+    requires { ⌜ length (now output) ≡ length (now input) ⌝ }
+    ensures { λ r. ⌜ now (output .exit) ≡ allOf 16 (seen order (roundsAll back (pairsFrom 0 (now (rkey .entry))))) (now (input .entry)) ⌝ }
 {
-    let s = arrive(order, read(input));
-    let t = leave(order, through(s, rkey, back));
-    put(t, output);
+    let e = input.len() - 64;
+    let x = taken(order, &input[0..64]);
+    let y = taken(order, &input[e..]);
+    if 128 < input.len() {
+        let z = taken(order, &input[64..128]);
+        let t = through(Three { x, y, z }, rkey, back, true);
+        given(order, t.x, &mut output[0..64]);
+        given(order, t.z, &mut output[64..128]);
+        given(order, t.y, &mut output[e..]);
+        return;
+    }
+    let u = through(Three { x, y, z: x }, rkey, back, false);
+    given(order, u.x, &mut output[0..64]);
+    given(order, u.y, &mut output[e..]);
 }
 
-// Whether there is such an order, there are eighty words, the input is whole groups and the output as long.
+// Whether there is such an order, there are eighty words, the input is four whole blocks or more and the output as long.
 pub fn in_groups(order: u32, words: usize, input: usize, output: usize) -> bool
     ensures { λ r. ⌜ r ≡ inGroups order words input output ⌝ }
 {
@@ -325,13 +387,26 @@ pub fn in_groups(order: u32, words: usize, input: usize, output: usize) -> bool
     if words != 80 {
         return false;
     }
-    if input % 128 != 0 {
+    if input % 16 != 0 {
+        return false;
+    }
+    if input < 64 {
         return false;
     }
     output == input
 }
 
-// All the blocks of whole groups, by any eighty words, forty rounds done or undone. An output for which the lengths or the order are not right stays as it is.
+// How many bytes the next group is, of those that are left: eight blocks, and at the end all, so that never less than four are left.
+fn width(left: usize) -> usize
+    ensures { λ r. ⌜ r ≡ cond (leb left 192) left 128 ⌝ }
+{
+    if left <= 192 {
+        return left;
+    }
+    128
+}
+
+// All the blocks, if there are four or more, by any eighty words, forty rounds done or undone. An output for which the lengths or the order are not right stays as it is.
 pub fn groups(order: u32, rkey: &[u32], input: &[u8], output: &mut [u8], back: bool)
     ensures { λ r. ⌜ now (output .exit) ≡ cond (inGroups order (length (now (rkey .entry))) (length (now (input .entry))) (length (now (output .entry)))) (allOf 16 (seen order (roundsAll back (pairsFrom 0 (now (rkey .entry))))) (now (input .entry))) (now (output .entry)) ⌝ }
 {
@@ -340,7 +415,7 @@ pub fn groups(order: u32, rkey: &[u32], input: &[u8], output: &mut [u8], back: b
     }
     let mut a: usize = 0;
     while a < input.len() {
-        let e = a + 128;
+        let e = a + width(input.len() - a);
         group(order, rkey, &input[a..e], &mut output[a..e], back);
         a = e;
     }

@@ -2,7 +2,6 @@
 pub mod Answers
 pub mod Blocks
 pub mod Many
-pub mod Ending
 pub mod OrderZero
 pub mod OneOutcome
 pub mod AnyWords

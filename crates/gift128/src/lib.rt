@@ -2,7 +2,6 @@
 mod orders;
 
 use answers::DONE;
-use eight::groups;
 use key_schedule::precompute_rkeys;
 use orders::in_order;
 use orders::key_code;
@@ -18,12 +17,10 @@ use quintuple::inv_quintuples;
 use quintuple::quintuples;
 use slices::all_groups;
 ghost use mathlib.Core.Path.{_≡_};
-ghost use mathlib.Core.Bool.{true, false, _&&_};
-ghost use Prim.Native.Nat.{_+_, _-_, _/_, _%_, _≤_, _<_};
-ghost use lib.Dec.{leb};
-ghost use lib.ListN.{length, take, replicate};
+ghost use mathlib.Core.Bool.{true, false};
+ghost use Prim.Native.Nat.{_+_, _%_, _≤_};
+ghost use lib.ListN.{length, replicate};
 ghost use denote.Ref.{now};
-ghost use Rattle.published.specs.Blocks.{eachOf};
 ghost use Rattle.published.specs.Gift128.{rounds128, unrounds128};
 ghost use Rattle.published.specs.Seen.{isOrder, seen};
 ghost use Rattle.primitives.specs.Packed.{blockOf, stateOf};
@@ -217,37 +214,17 @@ fn singles(order: u32, rkey: &[u32], input: &[u8], output: &mut [u8], back: bool
     }
 }
 
-// Whether what is left over after place m is better done as the last eight blocks: three or more, where there are eight.
-fn last_eight(n: usize, m: usize) -> bool
-    requires { ⌜ m ≤ n ⌝ }
-    ensures { λ r. ⌜ r ≡ leb 128 n && leb 48 (n - m) ⌝ }
+// How many bytes at the end go singly: one block, where the lanes would go through four for it.
+fn alone(n: usize) -> usize
+    ensures { λ r. ⌜ (r % 16 ≡ 0) × (64 ≤ n → r + 64 ≤ n) ⌝ }
 {
-    if n < 128 {
-        return false;
+    if n % 128 == 16 {
+        return 16;
     }
-    48 <= n - m
+    0
 }
 
-// What is left over, where the blocks before place m are done: singly, or else the last eight blocks as one more group, of which those before m are done
-// again, to the same bytes.
-fn rest(order: u32, rkey: &[u32], input: &[u8], output: &mut [u8], m: usize, back: bool)
-    requires { ⌜ isOrder order ≡ true ⌝ }
-    requires { ⌜ length (now rkey) ≡ 80 ⌝ }
-    requires { ⌜ length (now input) % 16 ≡ 0 ⌝ }
-    requires { ⌜ length (now output) ≡ length (now input) ⌝ }
-    requires { ⌜ (m % 16 ≡ 0) × (m ≤ length (now input)) × (length (now input) < m + 128) ⌝ }
-    requires { ⌜ take m (now output) ≡ eachOf 16 (seen order (roundsBy back (now rkey))) (m / 16) (now input) ⌝ }
-    ensures { λ r. ⌜ now (output .exit) ≡ allBlocks (seen order (roundsBy back (now (rkey .entry)))) (now (input .entry)) ⌝ }
-{
-    if last_eight(input.len(), m) {
-        let e = input.len() - 128;
-        groups(order, rkey, &input[e..], &mut output[e..], back);
-        return;
-    }
-    singles(order, rkey, &input[m..], &mut output[m..], back);
-}
-
-// Whole groups of eight blocks, sixty-four at once while there are as many; and then what is left over.
+// Many at once where there are four and more, and singly what is alone.
 fn all(order: u32, rkey: &[u32], input: &[u8], output: &mut [u8], back: bool)
     requires { ⌜ isOrder order ≡ true ⌝ }
     requires { ⌜ length (now rkey) ≡ 80 ⌝ }
@@ -255,9 +232,13 @@ fn all(order: u32, rkey: &[u32], input: &[u8], output: &mut [u8], back: bool)
     requires { ⌜ length (now output) ≡ length (now input) ⌝ }
     ensures { λ r. ⌜ now (output .exit) ≡ allBlocks (seen order (roundsBy back (now (rkey .entry)))) (now (input .entry)) ⌝ }
 {
-    let m = input.len() - input.len() % 128;
+    if input.len() < 64 {
+        singles(order, rkey, input, output, back);
+        return;
+    }
+    let m = input.len() - alone(input.len());
     all_groups(order, rkey, &input[0..m], &mut output[0..m], back);
-    rest(order, rkey, input, output, m, back);
+    singles(order, rkey, &input[m..], &mut output[m..], back);
 }
 
 fn many_by_words(order: u32, rkey: &[u32], input: &[u8], output: &mut [u8], back: bool) -> u32

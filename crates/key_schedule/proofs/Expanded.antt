@@ -3,18 +3,21 @@ use mathlib.Core.Path.{_≡_, sym, ap, ap₂, _∙_}
 use mathlib.Core.List.{List, _++_}
 use Prim.Native.Nat.{ℕ, zero, suc, _*_}
 use lib.Dec.{lit<}
-use lib.ListN.{length, take, drop, take-append-drop}
+use lib.ListN.{length}
 use Rattle.published.specs.Bytes.{fromBytes, Bytes}
 use Rattle.published.specs.Key.{update, pairs}
 use Rattle.published.specs.Gift128.{pairOf, pairsOf}
 use Rattle.published.proofs.Gift128.{length-pairs}
 use Rattle.round_words.specs.Arranged.{pairsFrom, inRow}
 use Rattle.round_words.proofs.Keeping.{Words32, length-words, pairs-words}
-use Rattle.key_schedule.specs.declared.Ten.{Ten}
+use Rattle.key_schedule.specs.declared.Twenty.{Twenty}
 use Rattle.key_schedule.specs.Expand.{expanded}
-use Rattle.key_schedule.specs.InnerTens.{firstWords, fiveRounds, fiveLater, wordsOf, tens, following, grown}
-use Rattle.key_schedule.proofs.KeyState.{u-lt, v-lt, fourOf, four-later, tens-of}
+use Rattle.key_schedule.specs.InnerTens.{Ten, firstWords, fiveRounds, fiveLater, tenLater, tenFurther, wordsOf}
+use Rattle.key_schedule.specs.InnerTwenty.{joinedTens, inBothTens, wordsIn}
+use Rattle.key_schedule.proofs.TenWords.{Small, small-five, small-later, small-further, words-in, both-tens}
+use Rattle.key_schedule.proofs.KeyState.{u-lt, v-lt, fourOf, four-later, ten-further, following, tens-of}
 use Rattle.key_schedule.proofs.KeyBytes.{first-words-are}
+use Rattle.key_schedule.proofs.Parts.{twenties}
 
 fit-pairs : (r k : ℕ) → Words32 (inRow (pairs pairOf r k))
 unfolding pairs inRow
@@ -35,19 +38,30 @@ pub length-expanded : (key : List ℕ) → length (expanded key) ≡ 80
 unfolding expanded pairsOf
 length-expanded key = length-words 0 (pairsOf key) ∙ ap (_*_ 2) (length-pairs pairOf 40 (fromBytes key))
 
--- ---- as the code makes it: the first two tens from four words of the key, and six tens that follow
+-- ---- as the code makes it: the words of the first ten rounds, of ten rounds later, and, of each of these, of twenty rounds later
 
-pub grown-expanded : (key rest : List ℕ) → length key ≡ 16 → Bytes key
-    → grown (wordsOf (fiveRounds (firstWords key)) ++ (wordsOf (fiveRounds (fiveLater (firstWords key))) ++ rest)) ≡ expanded key
-unfolding grown expanded pairsOf
-grown-expanded key rest len bytes =
+further-words : (s t : Ten) → Small s → wordsIn (inBothTens tenFurther (joinedTens s t)) ≡ wordsOf (tenLater (tenLater s)) ++ wordsOf (tenLater (tenLater t))
+further-words s t h =
+    ap wordsIn (both-tens s t h tenFurther) ∙ words-in (tenFurther s) (tenFurther t) (small-further s)
+    ∙ ap₂ (λ (a b : Ten). wordsOf a ++ wordsOf b) (ten-further s) (ten-further t)
+
+-- the eight tens that two are and that follow them
+eight-tens : (s t : Ten) → Small s → twenties (joinedTens s t) ≡ wordsOf s ++ (wordsOf t ++ following 6 s t)
+unfolding following
+eight-tens s t h =
+    let later : inBothTens tenLater (joinedTens s t) ≡ joinedTens (tenLater s) (tenLater t) = both-tens s t h tenLater in
+    let w0 = words-in s t h in
+    let w1 = ap wordsIn later ∙ words-in (tenLater s) (tenLater t) (small-later s) in
+    let w2 = further-words s t h in
+    let w3 = ap (λ (x : Twenty). wordsIn (inBothTens tenFurther x)) later ∙ further-words (tenLater s) (tenLater t) (small-later s) in
+    λ i. w0 i ++ (w1 i ++ (w2 i ++ w3 i))
+
+pub twenties-expanded : (key : List ℕ) (t : Twenty) → length key ≡ 16 → Bytes key
+    → t ≡ joinedTens (fiveRounds (firstWords key)) (fiveRounds (fiveLater (firstWords key))) → twenties t ≡ expanded key
+unfolding expanded pairsOf
+twenties-expanded key t len bytes e =
     let k : ℕ = fromBytes key in
     let first : firstWords key ≡ fourOf k = first-words-are key len bytes in
-    ap₂ (λ (a b : Ten). wordsOf a ++ (wordsOf b ++ following 6 a b)) (ap fiveRounds first) (ap fiveRounds (ap fiveLater first ∙ sym (four-later k)))
+    ap twenties e ∙ eight-tens (fiveRounds (firstWords key)) (fiveRounds (fiveLater (firstWords key))) (small-five (firstWords key))
+    ∙ ap₂ (λ (a b : Ten). wordsOf a ++ (wordsOf b ++ following 6 a b)) (ap fiveRounds first) (ap fiveRounds (ap fiveLater first ∙ sym (four-later k)))
     ∙ sym (tens-of 6 k)
-
--- the same as the loop leaves it: two tens in front, whatever comes after them
-pub begun : (key xs : List ℕ) → length key ≡ 16 → Bytes key → take 20 xs ≡ tens 2 (firstWords key) → grown xs ≡ expanded key
-unfolding tens
-begun key xs len bytes e =
-    ap grown (sym (take-append-drop 20 xs) ∙ ap (λ (l : List ℕ). l ++ drop 20 xs) e) ∙ grown-expanded key (drop 20 xs) len bytes

@@ -18,7 +18,7 @@ use Rattle.published.specs.Key.{_‖_}
 use Rattle.published.specs.Gift128.{pairOf}
 use Rattle.published.proofs.Reading.{bit-fromBytes, fromBytes-lt, bytes-take}
 use Rattle.key_schedule.specs.InnerTens.{firstWords}
-use Rattle.key_schedule.proofs.Updates.{bit-join}
+use Rattle.key_schedule.proofs.Halves.{bit-join}
 use Rattle.key_schedule.proofs.TenWords.{same-four}
 use Rattle.key_schedule.proofs.KeyState.{one-on, fourOf}
 

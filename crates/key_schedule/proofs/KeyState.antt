@@ -1,7 +1,7 @@
 -- The published key state, five rounds at a time: its pairs U, V are the tens, each made of the ten that stands two before it.
 use mathlib.Core.Path.{_≡_, refl, sym, ap, ap₂, _∙_}
 use mathlib.Core.Bool.{cond}
-use mathlib.Core.List.{_++_}
+use mathlib.Core.List.{List, [], _++_}
 use Prim.Native.Nat.{ℕ, zero, suc, _+_, _-_, _^_, _<_}
 use native.Mathlib.Omega.{arith}
 use lib.Arith.{digits-lt}
@@ -12,12 +12,11 @@ use Rattle.bits.proofs.Truth.{cond-either}
 use Rattle.published.specs.Rounds.{Pair}
 use Rattle.published.specs.Key.{_‖_, ror16, update, pairs}
 use Rattle.published.specs.Gift128.{pairOf}
-use Rattle.round_words.specs.Arranged.{arranged, wordsFrom}
-use Rattle.round_words.proofs.Arrangements.{stands-arranged}
+use Rattle.round_words.specs.Arranged.{arranged, stands, wordsFrom}
+use Rattle.round_words.proofs.Arrangements.{stands-arranged, stands-lt}
 use Rattle.key_schedule.specs.declared.Four.{Four}
-use Rattle.key_schedule.specs.declared.Ten.{Ten}
 use Rattle.key_schedule.specs.InnerUpdate.{updated, updates, later}
-use Rattle.key_schedule.specs.InnerTens.{fiveRounds, fiveLater, tenLater, wordsOf, following}
+use Rattle.key_schedule.specs.InnerTens.{Ten, fiveRounds, fiveLater, tenLater, tenFurther, wordsOf}
 use Rattle.key_schedule.proofs.Updates.{ror16-lt, updated-lt}
 use Rattle.key_schedule.proofs.TenWords.{same-four, same-ten}
 
@@ -124,6 +123,37 @@ ten-on w v0 u0 v1 u1 =
     (later-arranged 5 2 (updated (w .u0)) (lit< tt) (updated-lt (w .u0)))
     (later-arranged 5 3 (updated (w .v0)) (lit< tt) (updated-lt (w .v0)))
 
+-- forty words further is twice twenty words further: updates in an arrangement add up
+updates-lt : (m w : ℕ) → w < 2 ^ 32 → updates m w < 2 ^ 32
+unfolding updates
+updates-lt zero w h = h
+updates-lt (suc m) w h = updated-lt (updates m w)
+
+updates-add : (m n w : ℕ) → updates m (updates n w) ≡ updates (n + m) w
+unfolding updates
+updates-add zero n w = let none : n ≡ n + 0 = omega arith in ap (λ (k : ℕ). updates k w) none
+updates-add (suc m) n w = let more : suc (n + m) ≡ n + suc m = omega arith in ap updated (updates-add m n w) ∙ ap (λ (k : ℕ). updates k w) more
+
+later-twice : (k m n x : ℕ) → k < 6 → later k (n + m) x ≡ later k m (later k n x)
+unfolding later
+later-twice k m n x h =
+    sym (later-arranged k m (updates n (stands k x)) h (updates-lt n (stands k x) (stands-lt k x)) ∙ ap (arranged k) (updates-add m n (stands k x)))
+
+pub ten-further : (t : Ten) → tenFurther t ≡ tenLater (tenLater t)
+unfolding tenFurther tenLater
+ten-further t =
+    same-ten (tenFurther t) (tenLater (tenLater t))
+    (later-twice 1 2 3 (t .v0) (lit< tt))
+    (later-twice 1 3 2 (t .u0) (lit< tt))
+    (later-twice 2 2 3 (t .v1) (lit< tt))
+    (later-twice 2 3 2 (t .u1) (lit< tt))
+    (later-twice 3 2 3 (t .v2) (lit< tt))
+    (later-twice 3 3 2 (t .u2) (lit< tt))
+    (later-twice 4 2 3 (t .v3) (lit< tt))
+    (later-twice 4 3 2 (t .u3) (lit< tt))
+    (later-twice 5 2 3 (t .v4) (lit< tt))
+    (later-twice 5 3 2 (t .u4) (lit< tt))
+
 -- ---- all rounds
 
 abbrev pub tenOn : ℕ → Ten
@@ -133,6 +163,11 @@ ten-later-on : (key : ℕ) → tenLater (tenOn key) ≡ tenOn (fiveOn (fiveOn ke
 unfolding fourOf
 ten-later-on key =
     ten-on (fourOf key) (v-lt key) (u-lt key) (v-lt (update key)) (u-lt (update key)) ∙ sym (ap fiveRounds (four-later (fiveOn key) ∙ ap fiveLater (four-later key)))
+
+-- n tens that follow the tens a, b, each made of the ten that stands two before it
+unfoldable pub following : ℕ → Ten → Ten → List ℕ
+following zero a b = []
+following (suc n) a b = wordsOf (tenLater a) ++ following n b (tenLater a)
 
 -- five times n
 abbrev pub fives : ℕ → ℕ

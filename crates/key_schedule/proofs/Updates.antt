@@ -1,36 +1,27 @@
 -- The update of a key word is a move of bits, and so is any number of updates of a word that is kept in an arrangement.
-use mathlib.Core.Path.{_≡_, refl, sym, ap, _∙_}
+use mathlib.Core.Path.{_≡_, refl, sym, ap, ap₂, _∙_}
 use mathlib.Core.Bool.{Bool, true, false, cond, _&&_}
 use mathlib.Core.List.{[], _∷_}
 use Prim.Native.Nat.{ℕ, zero, suc, _+_, _-_, _*_, _%_, _^_, _≤_, _<_}
-use native.Mathlib.Nat.{mod-lt, add-sub-of-le}
+use native.Mathlib.Nat.{mod-lt}
 use native.Mathlib.Omega.{arith}
 use lib.Arith.{digits-lt}
-use lib.Bits.{bitAnd, and-lt}
 use lib.Dec.{T, ltb, ltb→lt, lit<}
-use lib.Pow.{high}
 use borrow.Author.Tests.{ltb-true, ltb-false}
 use Rattle.bits.specs.Digit.{digit, bit}
-use Rattle.bits.proofs.Bits.{bit-digit, bit-ext, bit-join-low, bit-ofBits, bit-shr, ofBits-lt}
+use Rattle.bits.proofs.Bits.{bit-digit, bit-ext, bit-ofBits, ofBits-lt}
 use Rattle.bits.proofs.Computed.{and-left, and-right, bounded}
 use Rattle.bits.proofs.Reflect.{W, var, lit, and, or, shr, shl, value}
 use Rattle.published.specs.Key.{ror16}
 use Rattle.primitives.specs.Words.{permuted, rorIn}
-use Rattle.primitives.proofs.Moves.{bit-permuted, permuted-lt, permuted-then, isMove, moves}
+use Rattle.primitives.proofs.Moves.{bit-permuted, permuted-lt, permuted-then}
 use Rattle.round_words.specs.Arranged.{nibbleAt, arranged, stands}
-use Rattle.round_words.proofs.Arrangements.{nibbleAt-lt}
+use Rattle.round_words.proofs.Arrangements.{nibbleAt-lt, arranged-lt}
 use Rattle.key_schedule.specs.InnerUpdate.{updated, updates, later}
+use Rattle.key_schedule.specs.InnerHalves.{lowOf, highOf, joined, inBoth}
+use Rattle.key_schedule.proofs.Halves.{bit-join, isBoth, moves-both}
 
--- ---- hi ‖ lo, and a word of 16 bits that goes round
-
-pub bit-join : (k hi lo i : ℕ) → lo < 2 ^ k → bit (hi * 2 ^ k + lo) i ≡ cond (ltb i k) (bit lo i) (bit hi (i - k))
-bit-join k hi lo i h = go (ltb i k) refl
-  where
-    go : (t : Bool) → ltb i k ≡ t → bit (hi * 2 ^ k + lo) i ≡ cond t (bit lo i) (bit hi (i - k))
-    go true e = bit-join-low k hi lo i (ltb-true i k e)
-    go false e =
-        ap (bit (hi * 2 ^ k + lo)) (sym (add-sub-of-le (ltb-false i k e))) ∙ sym (bit-shr (hi * 2 ^ k + lo) k (i - k))
-        ∙ ap (λ (m : ℕ). bit m (i - k)) (high hi k h)
+-- ---- a word of 16 bits that goes round
 
 pub ror16-lt : (r x : ℕ) → ror16 r x < 2 ^ 16
 unfolding ror16
@@ -94,13 +85,11 @@ later-move k m x h =
     ap (permuted (nibbleAt k)) (updates-move m (nibbleAt (5 - k)) x)
     ∙ permuted-then (nibbleAt k) (λ i. nibbleAt (5 - k) (turns m i)) x (λ i l. nibbleAt-lt k i h l)
 
--- an expression of one word makes m updates in arrangement k, by the test
-pub is-later : (k m : ℕ) (e : W) → T (ltb k 6 && isMove (laterPlace k m) e) → (x : ℕ) → x < 2 ^ 32 → value 32 (x ∷ []) e ≡ later k m x
-is-later k m e t x h =
-    moves (laterPlace k m) e (and-right (ltb k 6) (isMove (laterPlace k m) e) t) x h
-    ∙ sym (later-move k m x (ltb→lt k 6 (and-left (ltb k 6) (isMove (laterPlace k m) e) t)))
+pub later-lt : (k m x : ℕ) → later k m x < 2 ^ 32
+unfolding later
+later-lt k m x = arranged-lt k (updates m (stands k x))
 
--- ---- the shapes of the updates: parts that go down or up under a mask, or round the word, in one word
+-- ---- the shapes of the updates in both halves: parts that go down or up under a mask
 
 infixl 30 _∣_
 abbrev pub _∣_ : W → W → W
@@ -114,14 +103,9 @@ down k m = and (shr (var 0) k) (lit m)
 abbrev pub up : ℕ → ℕ → W
 up m k = shl (and (var 0) (lit m)) k
 
--- ror(x & m, k)
-abbrev pub around : ℕ → ℕ → W
-around m k = shr (and (var 0) (lit m)) k ∣ shl (and (var 0) (lit m)) (32 - k)
-
-pub goes-around : (m k x : ℕ) → T (ltb m (2 ^ 32) && isMove (rorIn 32 k) (shr (var 0) k ∣ shl (var 0) (32 - k))) → x < 2 ^ 32
-    → permuted (rorIn 32 k) (bitAnd x m) ≡ value 32 (x ∷ []) (around m k)
-goes-around m k x t h =
-    let e : W = shr (var 0) k ∣ shl (var 0) (32 - k) in
-    sym
-    (moves (rorIn 32 k) e (and-right (ltb m (2 ^ 32)) (isMove (rorIn 32 k) e) t) (bitAnd x m)
-    (and-lt 32 x m h (ltb→lt m (2 ^ 32) (and-left (ltb m (2 ^ 32)) (isMove (rorIn 32 k) e) t))))
+-- an expression makes m updates in arrangement k, in both halves, by the test
+pub is-later : (k m : ℕ) (e : W) → T (ltb k 6 && isBoth (laterPlace k m) e) → (x : ℕ) → x < 2 ^ 64 → value 64 (x ∷ []) e ≡ inBoth (later k m) x
+is-later k m e t x h =
+    let hk : k < 6 = ltb→lt k 6 (and-left (ltb k 6) (isBoth (laterPlace k m) e) t) in
+    moves-both (laterPlace k m) e (and-right (ltb k 6) (isBoth (laterPlace k m) e) t) x h
+    ∙ ap₂ joined (sym (later-move k m (lowOf x) hk)) (sym (later-move k m (highOf x) hk))

@@ -1,15 +1,28 @@
--- Inner: the ten words of five rounds: as the first two of those rounds give them, and as the ten words that stand twenty before do.
--- Two rounds after a round, V is its U and U is its V updated; ten rounds after it, V is its U updated twice and U is its V updated three times.
+-- Inner: the ten words of five rounds: as the first two of those rounds give them, and as the ten words that stand twenty or forty before do.
+-- Two rounds after a round, V is its U and U is its V updated; ten rounds after it, V is its U updated twice and U is its V updated three times;
+-- twenty rounds after it, each is updated five times.
 use mathlib.Core.Bool.{cond}
-use mathlib.Core.List.{List, [], _∷_, _++_}
-use Prim.Native.Nat.{ℕ, zero, suc}
+use mathlib.Core.List.{List, [], _∷_}
+use Prim.Native.Nat.{ℕ}
 use lib.Dec.{eqb}
-use lib.ListN.{length, getD, take, drop}
+use lib.ListN.{length, take, drop}
 use Rattle.published.specs.Bytes.{fromBytes}
 use Rattle.round_words.specs.Arranged.{arranged}
 use Rattle.key_schedule.specs.declared.Four.{Four}
-use Rattle.key_schedule.specs.declared.Ten.{Ten}
 use Rattle.key_schedule.specs.InnerUpdate.{updated, later}
+
+-- V and U of five rounds
+pub record Ten : Type 0 where
+  pub v0 : ℕ
+  pub u0 : ℕ
+  pub v1 : ℕ
+  pub u1 : ℕ
+  pub v2 : ℕ
+  pub u2 : ℕ
+  pub v3 : ℕ
+  pub u3 : ℕ
+  pub v4 : ℕ
+  pub u4 : ℕ
 
 -- V and U of the first two rounds
 unfoldable pub firstWords : List ℕ → Four
@@ -61,39 +74,22 @@ tenLater t =
       u4 = later 5 3 (t .v4);
     }
 
--- ten words as a list, and the first ten words of a list
-abbrev pub wordsOf : Ten → List ℕ
-wordsOf t = t .v0 ∷ t .u0 ∷ t .v1 ∷ t .u1 ∷ t .v2 ∷ t .u2 ∷ t .v3 ∷ t .u3 ∷ t .v4 ∷ t .u4 ∷ []
-
-abbrev pub tenOf : List ℕ → Ten
-tenOf ws =
+-- the words of five rounds from those that stand forty before
+unfoldable pub tenFurther : Ten → Ten
+tenFurther t =
     record {
-      v0 = getD ws 0 0;
-      u0 = getD ws 1 0;
-      v1 = getD ws 2 0;
-      u1 = getD ws 3 0;
-      v2 = getD ws 4 0;
-      u2 = getD ws 5 0;
-      v3 = getD ws 6 0;
-      u3 = getD ws 7 0;
-      v4 = getD ws 8 0;
-      u4 = getD ws 9 0;
+      v0 = later 1 5 (t .v0);
+      u0 = later 1 5 (t .u0);
+      v1 = later 2 5 (t .v1);
+      u1 = later 2 5 (t .u1);
+      v2 = later 3 5 (t .v2);
+      u2 = later 3 5 (t .u2);
+      v3 = later 4 5 (t .v3);
+      u3 = later 4 5 (t .u3);
+      v4 = later 5 5 (t .v4);
+      u4 = later 5 5 (t .u4);
     }
 
--- the ten words from place i on
-abbrev pub tenAt : List ℕ → ℕ → Ten
-tenAt ws i = tenOf (take 10 (drop i ws))
-
--- the words of n times five rounds, from V and U of the first two
-unfoldable pub tens : ℕ → Four → List ℕ
-tens zero w = []
-tens (suc n) w = wordsOf (fiveRounds w) ++ tens n (fiveLater w)
-
--- n tens that follow the tens a, b, each made of the ten that stands two before it
-unfoldable pub following : ℕ → Ten → Ten → List ℕ
-following zero a b = []
-following (suc n) a b = wordsOf (tenLater a) ++ following n b (tenLater a)
-
--- the first twenty words, and the sixty that follow them
-unfoldable pub grown : List ℕ → List ℕ
-grown ws = take 20 ws ++ following 6 (tenAt ws 0) (tenAt ws 10)
+-- ten words as a list
+abbrev pub wordsOf : Ten → List ℕ
+wordsOf t = t .v0 ∷ t .u0 ∷ t .v1 ∷ t .u1 ∷ t .v2 ∷ t .u2 ∷ t .v3 ∷ t .u3 ∷ t .v4 ∷ t .u4 ∷ []

@@ -1,10 +1,7 @@
 -- Inner: the update of a key word, and what it makes of a word that is kept in an arrangement.
-use mathlib.Core.Bool.{cond}
-use Prim.Native.Nat.{ℕ, zero, suc, _%_}
-use lib.Dec.{ltb}
+use Prim.Native.Nat.{ℕ, zero, suc}
 use Rattle.bits.specs.Digit.{digit}
 use Rattle.published.specs.Key.{_‖_, ror16}
-use Rattle.primitives.specs.Words.{rorIn}
 use Rattle.round_words.specs.Arranged.{arranged, stands}
 
 -- The published update of V = k1 ‖ k0, as the key state turns it into a U: (k1 rotated right 2) ‖ (k0 rotated right 12).
@@ -18,8 +15,3 @@ updates (suc m) w = updated (updates m w)
 -- m updates of the word that w stands for in arrangement k, kept in that arrangement
 unfoldable pub later : ℕ → ℕ → ℕ → ℕ
 later k m w = arranged k (updates m (stands k w))
-
--- Where a bit comes from if the two low bits of each nibble are rotated right by 24 in the word and the two high bits by 16.
--- It is three updates in arrangement 1, but for some neighbouring bits that have still to change places.
-abbrev pub tripled : ℕ → ℕ
-tripled i = cond (ltb (i % 4) 2) (rorIn 32 24 i) (rorIn 32 16 i)

@@ -1,4 +1,6 @@
--- What the contracts say: the eighty words of a key; and inner, the update of a key word and the words of five rounds.
+-- What the contracts say: the eighty words of a key; and inner, the update of a key word, two words in one number, and the words of five rounds and of ten.
 pub mod Expand
 pub mod InnerUpdate
+pub mod InnerHalves
 pub mod InnerTens
+pub mod InnerTwenty

@@ -11,6 +11,7 @@ use Rattle.primitives.specs.declared.State.{State}
 use Rattle.primitives.specs.Words.{permuted}
 use Rattle.primitives.specs.Packed.{wordOf}
 use Rattle.round_words.specs.Arranged.{nibbleAt, constantWord}
+use Rattle.quintuple.specs.declared.FiveConstants.{FiveConstants}
 use Rattle.quintuple.specs.declared.Part.{Part}
 use Rattle.quintuple.specs.Boxes.{substituted, boxed}
 use Rattle.quintuple.specs.Quintuple.{good}
@@ -60,24 +61,35 @@ unsubround k s v u c = exchangedOf (boxed unentry (unmoved k s v u c))
 abbrev pub tabled : ℕ → ℕ
 tabled r = constantWord (r % 5) r
 
+-- those of the five rounds from i on
+abbrev pub constantsOf : ℕ → FiveConstants
+constantsOf i =
+    record {
+      c0 = tabled i;
+      c1 = tabled (i + 1);
+      c2 = tabled (i + 2);
+      c3 = tabled (i + 3);
+      c4 = tabled (i + 4);
+    }
+
 -- what a quintuple from round i on goes by
 abbrev pub partOf : List ℕ → ℕ → Part
 partOf ws i =
     record {
       v0 = getD ws 0 0;
       u0 = getD ws 1 0;
-      c0 = tabled i;
       v1 = getD ws 2 0;
       u1 = getD ws 3 0;
-      c1 = tabled (i + 1);
       v2 = getD ws 4 0;
       u2 = getD ws 5 0;
-      c2 = tabled (i + 2);
       v3 = getD ws 6 0;
       u3 = getD ws 7 0;
-      c3 = tabled (i + 3);
       v4 = getD ws 8 0;
       u4 = getD ws 9 0;
+      c0 = tabled i;
+      c1 = tabled (i + 1);
+      c2 = tabled (i + 2);
+      c3 = tabled (i + 3);
       c4 = tabled (i + 4);
     }
 
@@ -87,18 +99,18 @@ noPart =
     record {
       v0 = 0;
       u0 = 0;
-      c0 = 0;
       v1 = 0;
       u1 = 0;
-      c1 = 0;
       v2 = 0;
       u2 = 0;
-      c2 = 0;
       v3 = 0;
       u3 = 0;
-      c3 = 0;
       v4 = 0;
       u4 = 0;
+      c0 = 0;
+      c1 = 0;
+      c2 = 0;
+      c3 = 0;
       c4 = 0;
     }
 

@@ -1,5 +1,4 @@
 // The boxes and rounds of primitives.rs: the S-box and its inverse, five rounds and their undoing.
-use consts::GIFT_RC;
 use consts::round_constant;
 use primitives::State;
 use primitives::byte_ror_2;
@@ -15,7 +14,7 @@ use primitives::ror;
 use primitives::swapmovesingle;
 ghost use mathlib.Core.Path.{_≡_};
 ghost use mathlib.Core.Bool.{cond};
-ghost use Prim.Native.Nat.{_≤_};
+ghost use Prim.Native.Nat.{_%_, _≤_};
 ghost use lib.ListN.{length};
 ghost use Rattle.published.specs.Rounds.{entry};
 ghost use Rattle.published.specs.Inner.{unentry};
@@ -23,7 +22,7 @@ ghost use Rattle.primitives.specs.Packed.{blockOf, stateOf};
 ghost use Rattle.round_words.specs.Arranged.{stands};
 ghost use Rattle.quintuple.specs.Boxes.{boxed};
 ghost use Rattle.quintuple.specs.Quintuple.{good, quintupled, unquintupled, reach, several, unseveral, firstRound};
-ghost use Rattle.quintuple.specs.Inner.{exchangedOf, subround, unsubround, partOf, partIn, fiveOf, unfiveOf};
+ghost use Rattle.quintuple.specs.Inner.{exchangedOf, subround, unsubround, constantsOf, partOf, partIn, fiveOf, unfiveOf};
 
 pub mod consts;
 
@@ -223,44 +222,131 @@ fn starts(rkey: &[u32], i: usize) -> bool
 pub struct Part {
     pub v0: u32,
     pub u0: u32,
-    pub c0: u32,
     pub v1: u32,
     pub u1: u32,
-    pub c1: u32,
     pub v2: u32,
     pub u2: u32,
-    pub c2: u32,
     pub v3: u32,
     pub u3: u32,
-    pub c3: u32,
     pub v4: u32,
     pub u4: u32,
+    pub c0: u32,
+    pub c1: u32,
+    pub c2: u32,
+    pub c3: u32,
     pub c4: u32,
+}
+
+// The constants of a quintuple.
+struct FiveConstants {
+    c0: u32,
+    c1: u32,
+    c2: u32,
+    c3: u32,
+    c4: u32,
+}
+
+// The five entries of GIFT_RC from i on, written out: a constant array that is indexed is copied at every use, and what was just copied is slow to read again.
+fn constants(i: usize) -> FiveConstants
+    requires { ⌜ i ≤ 35 ⌝ }
+    requires { ⌜ i % 5 ≡ 0 ⌝ }
+    ensures { λ r. ⌜ r ≡ constantsOf i ⌝ }
+{
+    if i == 0 {
+        return FiveConstants {
+            c0: 0x10000008,
+            c1: 0x80018000,
+            c2: 0x54000002,
+            c3: 0x01010181,
+            c4: 0x8000001f,
+        };
+    }
+    if i == 5 {
+        return FiveConstants {
+            c0: 0x10888880,
+            c1: 0x6001e000,
+            c2: 0x51500002,
+            c3: 0x03030180,
+            c4: 0x8000002f,
+        };
+    }
+    if i == 10 {
+        return FiveConstants {
+            c0: 0x10088880,
+            c1: 0x60016000,
+            c2: 0x41500002,
+            c3: 0x03030080,
+            c4: 0x80000027,
+        };
+    }
+    if i == 15 {
+        return FiveConstants {
+            c0: 0x10008880,
+            c1: 0x4001e000,
+            c2: 0x11500002,
+            c3: 0x03020180,
+            c4: 0x8000002b,
+        };
+    }
+    if i == 20 {
+        return FiveConstants {
+            c0: 0x10080880,
+            c1: 0x60014000,
+            c2: 0x01400002,
+            c3: 0x02020080,
+            c4: 0x80000021,
+        };
+    }
+    if i == 25 {
+        return FiveConstants {
+            c0: 0x10000080,
+            c1: 0x0001c000,
+            c2: 0x51000002,
+            c3: 0x03010180,
+            c4: 0x8000002e,
+        };
+    }
+    if i == 30 {
+        return FiveConstants {
+            c0: 0x10088800,
+            c1: 0x60012000,
+            c2: 0x40500002,
+            c3: 0x01030080,
+            c4: 0x80000006,
+        };
+    }
+    FiveConstants {
+        c0: 0x10008808,
+        c1: 0xc001a000,
+        c2: 0x14500002,
+        c3: 0x01020181,
+        c4: 0x8000001a,
+    }
 }
 
 fn read_part(rkey: &[u32], i: usize) -> Part
     requires { ⌜ 10 ≤ length (now rkey) ⌝ }
     requires { ⌜ i ≤ 35 ⌝ }
+    requires { ⌜ i % 5 ≡ 0 ⌝ }
     ensures { λ r. ⌜ r ≡ partOf (now (rkey .entry)) i ⌝ }
 {
-    // Each use of a constant array copies it: one copy serves all five.
-    let table = GIFT_RC;
+    let k = constants(i);
     Part {
         v0: rkey[0],
         u0: rkey[1],
-        c0: table[i],
         v1: rkey[2],
         u1: rkey[3],
-        c1: table[i + 1],
         v2: rkey[4],
         u2: rkey[5],
-        c2: table[i + 2],
         v3: rkey[6],
         u3: rkey[7],
-        c3: table[i + 3],
         v4: rkey[8],
         u4: rkey[9],
-        c4: table[i + 4],
+        c0: k.c0,
+        c1: k.c1,
+        c2: k.c2,
+        c3: k.c3,
+        c4: k.c4,
     }
 }
 
@@ -354,18 +440,18 @@ pub fn part_at(rkey: &[u32], i: usize) -> Part
         return Part {
             v0: 0,
             u0: 0,
-            c0: 0,
             v1: 0,
             u1: 0,
-            c1: 0,
             v2: 0,
             u2: 0,
-            c2: 0,
             v3: 0,
             u3: 0,
-            c3: 0,
             v4: 0,
             u4: 0,
+            c0: 0,
+            c1: 0,
+            c2: 0,
+            c3: 0,
             c4: 0,
         };
     }

@@ -6,7 +6,7 @@ use turning::from_slices;
 use turning::to_slices;
 ghost use mathlib.Core.Path.{_≡_};
 ghost use mathlib.Core.Bool.{cond};
-ghost use Prim.Native.Nat.{ℕ, suc, _+_, _-_, _*_, _/_, _%_, _^_, _<_};
+ghost use Prim.Native.Nat.{ℕ, suc, _+_, _-_, _*_, _/_, _%_, _^_, _≤_, _<_};
 ghost use lib.ListN.{length, getD};
 ghost use lib.Dec.{eqb};
 ghost use denote.Ref.{now};
@@ -575,9 +575,20 @@ fn wide_groups(order: u32, rkey: &[u32], input: &[u8], output: &mut [u8], back: 
     }
 }
 
-// ---- whole groups of eight
+// ---- four blocks and more
 
-// What `eight::groups` does, to the same promise: sixty-four blocks at once while there are as many, and then eight.
+// Where the lanes begin after the groups of sixty-four, which end at m: there, or 64 bytes before the end where fewer are left.
+fn lanes_from(n: usize, m: usize) -> usize
+    requires { ⌜ (n % 16 ≡ 0) × (m % 16 ≡ 0) × (64 ≤ n) × (m ≤ n) ⌝ }
+    ensures { λ r. ⌜ (r % 16 ≡ 0) × (r ≤ m) × (r + 64 ≤ n) ⌝ }
+{
+    if n - m < 64 {
+        return n - 64;
+    }
+    m
+}
+
+// What `eight::groups` does, to the same promise: sixty-four blocks at once while there are as many, and then the lanes.
 pub fn all_groups(order: u32, rkey: &[u32], input: &[u8], output: &mut [u8], back: bool)
     ensures { λ r. ⌜ now (output .exit) ≡ cond (inGroups order (length (now (rkey .entry))) (length (now (input .entry))) (length (now (output .entry)))) (allOf 16 (seen order (roundsAll back (pairsFrom 0 (now (rkey .entry))))) (now (input .entry))) (now (output .entry)) ⌝ }
 {
@@ -590,5 +601,9 @@ pub fn all_groups(order: u32, rkey: &[u32], input: &[u8], output: &mut [u8], bac
     }
     let m = input.len() - input.len() % 1024;
     wide_groups(order, rkey, &input[0..m], &mut output[0..m], back);
-    groups(order, rkey, &input[m..], &mut output[m..], back);
+    if m == input.len() {
+        return;
+    }
+    let e = lanes_from(input.len(), m);
+    groups(order, rkey, &input[e..], &mut output[e..], back);
 }

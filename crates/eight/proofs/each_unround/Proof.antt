@@ -1,4 +1,4 @@
--- `eight::each_unround`: a loop of eight, in every lane `inv_by_part`.
+-- `eight::each_unround`: a loop of four, in every lane `inv_by_part`.
 use mathlib.Core.Path.{_≡_, _∙_}
 use Prim.Native.Nat.{_-_, _≤_}
 use native.Mathlib.Omega.{arith}
@@ -11,10 +11,10 @@ use Rattle.eight.proofs.each_unround.Tie as tie
 
 abbrev Inv-loop : tie.InvT-loop
 Inv-loop p a₀ b₀ c₀ d₀ l₀ a b c d l =
-    (l ≤ 8) × (length a ≡ 8) × (length b ≡ 8) × (length c ≡ 8) × (length d ≡ 8) × Gone (λ k. undone p (stateAt a₀ b₀ c₀ d₀ k)) l a₀ b₀ c₀ d₀ a b c d
+    (l ≤ 4) × (length a ≡ 4) × (length b ≡ 4) × (length c ≡ 4) × (length d ≡ 4) × Gone (λ k. undone p (stateAt a₀ b₀ c₀ d₀ k)) l a₀ b₀ c₀ d₀ a b c d
 
 abbrev μ-loop : tie.MeasureT-loop
-μ-loop p a₀ b₀ c₀ d₀ l₀ a b c d l = 8 - l
+μ-loop p a₀ b₀ c₀ d₀ l₀ a b c d l = 4 - l
 
 loop-holds : tie.Need-loop-holds Inv-loop μ-loop
 loop-holds c = (omega arith, search needs, search needs, search needs, search needs, gone-none _ _ _ _ _)

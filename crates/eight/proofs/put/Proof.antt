@@ -21,10 +21,10 @@ use Rattle.eight.proofs.put.Tie as tie
 
 abbrev Inv-loop : tie.InvT-loop
 Inv-loop output₀ a b c d n₀ output n =
-    (n ≤ 8) × (length a ≡ 8) × (length b ≡ 8) × (length c ≡ 8) × (length d ≡ 8) × (length output ≡ 128) × (take (16 * n) output ≡ joined n (λ k. writeIn 1 (blockOf (stateAt a b c d k))))
+    (n ≤ 4) × (length a ≡ 4) × (length b ≡ 4) × (length c ≡ 4) × (length d ≡ 4) × (length output ≡ 64) × (take (16 * n) output ≡ joined n (λ k. writeIn 1 (blockOf (stateAt a b c d k))))
 
 abbrev μ-loop : tie.MeasureT-loop
-μ-loop output₀ a b c d n₀ output n = 8 - n
+μ-loop output₀ a b c d n₀ output n = 4 - n
 
 loop-holds : tie.Need-loop-holds Inv-loop μ-loop
 loop-holds c = (omega arith, search needs, search needs, search needs, search needs, search needs, sym (joined-none _))
@@ -53,7 +53,7 @@ returns : tie.Need-returns Inv-loop μ-loop
 returns c =
     let q = c .before .loop in
     let start = c .before .before .before .before .before .before .before in
-    let all : q .n ≡ 8 = omega arith in
+    let all : q .n ≡ 4 = omega arith in
     sym (take-all (16 * q .n) (q .output) (omega arith)) ∙ q .inv .6 ∙ ap (λ (n : ℕ). joined n (λ k. writeIn 1 (blockOf (laneAt (start .args .s) k)))) all
 
 pub put-spec : {M : Type 1} → statement M

@@ -1,4 +1,4 @@
--- `eight::read`: a loop of eight, into every lane the words of its block.
+-- `eight::read`: a loop of four, into every lane the words of its block.
 use mathlib.Core.Path.{_≡_, ap, _∙_}
 use mathlib.Core.List.{List}
 use Prim.Native.Nat.{ℕ, _+_, _-_, _*_, _≤_}
@@ -13,10 +13,10 @@ use Rattle.eight.proofs.read.Tie as tie
 
 abbrev Inv-loop : tie.InvT-loop
 Inv-loop input a₀ b₀ c₀ d₀ l₀ a b c d l =
-    (l ≤ 8) × (length a ≡ 8) × (length b ≡ 8) × (length c ≡ 8) × (length d ≡ 8) × Gone (λ k. packed 1 (take 16 (drop (16 * k) input))) l a₀ b₀ c₀ d₀ a b c d
+    (l ≤ 4) × (length a ≡ 4) × (length b ≡ 4) × (length c ≡ 4) × (length d ≡ 4) × Gone (λ k. packed 1 (take 16 (drop (16 * k) input))) l a₀ b₀ c₀ d₀ a b c d
 
 abbrev μ-loop : tie.MeasureT-loop
-μ-loop input a₀ b₀ c₀ d₀ l₀ a b c d l = 8 - l
+μ-loop input a₀ b₀ c₀ d₀ l₀ a b c d l = 4 - l
 
 loop-holds : tie.Need-loop-holds Inv-loop μ-loop
 loop-holds c = (omega arith, search needs, search needs, search needs, search needs, gone-none _ _ _ _ _)

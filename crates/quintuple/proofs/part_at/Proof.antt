@@ -17,7 +17,7 @@ read-part-requires : tie.Need-read-part-requires
 read-part-requires c κs =
     let a = c .before .before .before .args in
     let ok = is-good (now (a .rkey)) (a .i) (told-true (c .before .starts .ensures) (c .if1 .left)) in
-    (ok .0, ok .1)
+    (ok .0, (ok .1, ok .2))
 
 returns-2 : tie.Need-returns-2
 unfolding partIn
