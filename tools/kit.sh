@@ -86,6 +86,23 @@ ready_library() {
     sha256sum --status -c include/libgift_host.sha256 2>/dev/null || prove_library "$1"
 }
 
+# need_key NAME FILE SAID: ends the script NAME with status 2 if FILE, which was called SAID, is no file of 16 bytes.
+need_key() {
+    if [ ! -f "$2" ] || [ ! -r "$2" ]; then
+        echo "$1: $3: it is no file that can be read" >&2
+        exit 2
+    fi
+    need_key_size=$(wc -c <"$2")
+    [ "$need_key_size" = 16 ] || { echo "$1: $3: a key has 16 bytes, and this file has $need_key_size" >&2; exit 2; }
+}
+
+# refusal_words NUMBER: what include/gift_refusals.h says of a refusal.
+refusal_words() {
+    for refusal_name in $(sed -n "s/^#define \(GIFT_[A-Z_]*\) *$1 .*/\1/p" include/gift_host.h); do
+        sed -n "s/^ *case $refusal_name: return \"\(.*\)\";.*/\1/p" include/gift_refusals.h
+    done
+}
+
 # desk_program NAME PROGRAM: has the proved library, and builds desk/PROGRAM.c over it as target/desk/PROGRAM; ends the script NAME with status 2 if either fails.
 desk_program() {
     (ready_library "$1") </dev/null || exit 2
