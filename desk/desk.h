@@ -383,26 +383,4 @@ static inline gift_written write_list(uint32_t edition, const uint8_t *key, cons
     return (edition == 1 ? gift_bundle_write_1 : gift_bundle_write_2)(key, GIFT_KEY_SIZE, (const uint32_t *)from->rows, 4 * from->count, from->pool, from->bytes, out, GIFT_BUNDLE_MOST);
 }
 
-/* Whether `make` of what `show` prints of a bundle gives it again, byte for byte. */
-static inline int comes_back(uint32_t edition, const uint8_t *key, const char *text, size_t size, const uint8_t *bundle, size_t bundle_size)
-{
-    static list again;
-    static uint8_t made[GIFT_BUNDLE_MOST];
-    reading r;
-    if (read_list(text, size, edition, &again, &r))
-        return 0;
-    gift_written written = write_list(edition, key, &again, made);
-    return written.code == GIFT_DONE && written.total == bundle_size && memcmp(made, bundle, bundle_size) == 0;
-}
-
-/* Whether what `show` prints of a bundle is a list that was read, but for how that is laid out. */
-static inline int says_the_same(const char *text, size_t size, gift_bundle seen, const uint8_t *bundle)
-{
-    static char plain[LIST_MOST + 8], shown[LIST_MOST];
-    size_t length = put_list(shown, seen, bundle), head = 0;
-    while (shown[head++] != '\n')
-        ;
-    return put_plain(plain, text, size) == length - head && memcmp(plain, shown + head, length - head) == 0;
-}
-
 #endif

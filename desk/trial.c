@@ -1,9 +1,13 @@
-/* The desk's law, tried: `make` of what `show` prints of a bundle gives it again, byte for byte. Bundles of both editions are written at random by the library's writers, shown by the functions of
- * desk.h that `show` has, and made again by those that `make` has; also as a person might lay the same list out, with comments, blanks and lines that end as on other systems. Then texts with one byte changed: what
- * is read of them is a list or a line that is named, and what is a list comes back in the same way. The same texts on each run. Exit status 1 if anything differs. */
+/* The desk's law, tried: `make` of what `show` prints of a bundle gives it again, byte for byte. Bundles of both editions are written at random by the library's writers, printed by desk.h as `show`
+ * prints them, and made again by the functions that `make` has; also as a person might lay the same list out, with comments, blanks and lines that end as on other systems. Then texts with one byte changed: what
+ * is read of them is a list or a line that is named, and what is a list comes back in the same way. The same texts on each run.
+ *
+ * usage: trial FOLDER
+ *   FOLDER    where 200 of the bundles go, as N.EDITION.bundle and N.EDITION.key, for desk/run to try the programs on
+ * Exit status: 1 if anything differs, 2 if the folder cannot be used. */
 #include "desk.h"
 
-enum { BUNDLES = 4000, CHANGED = 20000 };
+enum { BUNDLES = 4000, KEPT = 200, CHANGED = 20000 };
 
 static uint64_t seed = 26;
 
@@ -24,6 +28,28 @@ static uint8_t key[GIFT_KEY_SIZE], bundle[GIFT_BUNDLE_MOST], other[GIFT_BUNDLE_M
 static list from, changed;
 static char shown[LIST_MOST], laid_out[4 * LIST_MOST];
 static unsigned long differences, settings, bytes, kinds[3], must_knows, empty_texts, full_texts, faults, lists;
+
+/* Whether `make` of what `show` prints of a bundle gives it again, byte for byte. */
+static int comes_back(uint32_t edition, const uint8_t *key, const char *text, size_t size, const uint8_t *bundle, size_t bundle_size)
+{
+    static list again;
+    static uint8_t made[GIFT_BUNDLE_MOST];
+    reading r;
+    if (read_list(text, size, edition, &again, &r))
+        return 0;
+    gift_written written = write_list(edition, key, &again, made);
+    return written.code == GIFT_DONE && written.total == bundle_size && memcmp(made, bundle, bundle_size) == 0;
+}
+
+/* Whether what `show` prints of a bundle is a list that was read, but for how that is laid out. */
+static int says_the_same(const char *text, size_t size, gift_bundle seen, const uint8_t *bundle)
+{
+    static char plain[LIST_MOST + 8], shown[LIST_MOST];
+    size_t length = put_list(shown, seen, bundle), head = 0;
+    while (shown[head++] != '\n')
+        ;
+    return put_plain(plain, text, size) == length - head && memcmp(plain, shown + head, length - head) == 0;
+}
 
 static void differs(const char *what)
 {
@@ -96,7 +122,16 @@ static size_t lay_out(const char *text, size_t size, char *to)
     return (size_t)(to - start);
 }
 
-static void one_bundle(void)
+static void keep(const char *folder, int number, uint32_t edition, const char *what, const void *from_here, size_t size)
+{
+    char name[1000];
+    snprintf(name, sizeof name, "%s/%d.%u.%s", folder, number, edition, what);
+    FILE *file = fopen(name, "wb");
+    if (!file || fwrite(from_here, 1, size, file) != size || fclose(file))
+        fail(name, strerror(errno));
+}
+
+static void one_bundle(const char *folder, int number)
 {
     uint32_t edition = 1 + below(2);
     for (size_t i = 0; i < sizeof key; i++)
@@ -109,6 +144,10 @@ static void one_bundle(void)
     }
     settings += from.count;
     bytes += written.total;
+    if (number < KEPT) {
+        keep(folder, number, edition, "bundle", bundle, written.total);
+        keep(folder, number, edition, "key", key, sizeof key);
+    }
     for (uint32_t reader = edition; reader <= 2; reader++) {
         size_t size = put_list(shown, open_as(reader, key, bundle, written.total), bundle);
         if (!comes_back(edition, key, shown, size, bundle, written.total))
@@ -159,10 +198,15 @@ static void one_change(void)
         differs("the bundle does not say what the list that was read says");
 }
 
-int main(void)
+int main(int count, char **words)
 {
+    program = "trial";
+    if (count != 2) {
+        fprintf(stderr, "usage: trial FOLDER\n");
+        return 2;
+    }
     for (int i = 0; i < BUNDLES; i++)
-        one_bundle();
+        one_bundle(words[1], i);
     for (int i = 0; i < CHANGED; i++)
         one_change();
     printf("%d bundles, %lu bytes, %lu settings: %lu flags, %lu numbers, %lu texts (%lu empty, %lu of 255 bytes), %lu that must be known\n", BUNDLES, bytes, settings, kinds[0], kinds[1], kinds[2], empty_texts,
