@@ -60,7 +60,8 @@ static void differs(const char *what)
 /* A number of one of many sizes, and the ends. */
 static uint64_t some_number(void)
 {
-    return below(8) == 0 ? UINT64_MAX : next() >> below(64);
+    uint32_t smaller = below(64);
+    return below(8) == 0 ? UINT64_MAX : next() >> smaller;
 }
 
 static void some_setting(uint32_t edition, uint32_t id)
@@ -74,7 +75,7 @@ static void some_setting(uint32_t edition, uint32_t id)
         uint32_t form = below(4);
         length = below(8) == 0 ? 255 : below(5) == 0 ? 0 : below(40);
         for (uint32_t i = 0; i < length; i++)
-            body[i] = (uint8_t)(form == 0 ? below(256) : form == 1 ? "\"\\x# \n"[below(6)] : form == 2 ? 255 - i : 32 + below(95));
+            body[i] = (uint8_t)(form == 0 ? below(256) : form == 1 ? (uint32_t)"\"\\x# \n"[below(6)] : form == 2 ? 255 - i : 32 + below(95));
         empty_texts += length == 0;
         full_texts += length == 255;
     } else
@@ -114,9 +115,10 @@ static size_t lay_out(const char *text, size_t size, char *to)
             quoted = !quoted;
         if (text[i] == ' ' && !quoted && below(3) == 0)
             to += sprintf(to, " \t ");
-        else if (text[i] == '\n')
-            to += sprintf(to, "%s%s%s\n", below(3) ? "" : " # a \"comment\" must-know", below(4) ? "" : "\r", below(5) ? "" : "\n   \n# 7 flag 2");
-        else
+        else if (text[i] == '\n') {
+            const char *comment = below(3) ? "" : " # a \"comment\" must-know", *end = below(4) ? "" : "\r", *more = below(5) ? "" : "\n   \n# 7 flag 2";
+            to += sprintf(to, "%s%s%s\n", comment, end, more);
+        } else
             *to++ = text[i];
     }
     return (size_t)(to - start);
