@@ -42,10 +42,10 @@ progress() {
 }
 
 # As rt runs a program: under the kit's loader and C library, and on another processor than x86-64 under the kit's emulator.
-run() { # PROGRAM
+run() { # PROGRAM WORDS..
     emulator=$tools/bin/qemu-x86_64
     [ -x "$emulator" ] || emulator=''
-    ${emulator:+"$emulator"} "$tools/lib/ld-linux-x86-64.so.2" --library-path "$tools/lib" "$1"
+    ${emulator:+"$emulator"} "$tools/lib/ld-linux-x86-64.so.2" --library-path "$tools/lib" "$@"
 }
 
 # proving NAME LOG WORDS..: runs `rt WORDS..`, whose last word is a crate, with its progress on standard error and what it says in the file LOG; ends the script NAME
@@ -72,6 +72,44 @@ prove_library() {
     proving "$1" target/hosts/staticlib.log staticlib gift_host
 }
 
+# over_library SOURCE PROGRAM: builds a program in C over the library for hosts with the kit's own compiler, linker and C library. The kit has no headers: those of hosts/c/libc say
+# what the programs need.
+over_library() {
+    "$tools/bin/clang" --target=x86_64-linux-gnu -std=c11 -O2 -fPIE -nostdinc -isystem hosts/c/libc \
+        -Wall -Wextra -Wpedantic -Werror -c -o "$2.o" "$1" &&
+        "$tools/bin/ld.lld" -pie -dynamic-linker /lib64/ld-linux-x86-64.so.2 -o "$2" \
+            "$tools/lib/Scrt1.o" "$tools/lib/crti.o" "$2.o" target/staticlib/libgift_host.a "$tools/lib/libc.so.6" "$tools/lib/crtn.o"
+}
+
+# ready_library NAME: as prove_library, but an archive that is there and has the checksum that the gate holds it to is not proved again: the kit would prove gift_host at every call.
+ready_library() {
+    sha256sum --status -c include/libgift_host.sha256 2>/dev/null || prove_library "$1"
+}
+
+# need_key NAME FILE SAID: ends the script NAME with status 2 if FILE, which was called SAID, is no file of 16 bytes.
+need_key() {
+    if [ ! -f "$2" ] || [ ! -r "$2" ]; then
+        echo "$1: $3: it is no file that can be read" >&2
+        exit 2
+    fi
+    need_key_size=$(wc -c <"$2")
+    [ "$need_key_size" = 16 ] || { echo "$1: $3: a key has 16 bytes, and this file has $need_key_size" >&2; exit 2; }
+}
+
+# refusal_words NUMBER: what include/gift_refusals.h says of a refusal.
+refusal_words() {
+    for refusal_name in $(sed -n "s/^#define \(GIFT_[A-Z_]*\) *$1 .*/\1/p" include/gift_host.h); do
+        sed -n "s/^ *case $refusal_name: return \"\(.*\)\";.*/\1/p" include/gift_refusals.h
+    done
+}
+
+# desk_program NAME PROGRAM: has the proved library, and builds desk/PROGRAM.c over it as target/desk/PROGRAM; ends the script NAME with status 2 if either fails.
+desk_program() {
+    (ready_library "$1") </dev/null || exit 2
+    mkdir -p target/desk
+    over_library "desk/$2.c" "target/desk/$2" || { echo "$1: desk/$2.c is not built" >&2; exit 2; }
+}
+
 # measure NAME: builds speed/NAME.c over the library for hosts with the kit's own compiler, linker and C library, and runs it.
 # Ends the script with status 1 if something is not proved, with 2 if something is missing, and else as the program does. Run at the top of the repository.
 measure() {
@@ -82,11 +120,7 @@ measure() {
     fi
     prove_library "speed/$1"
     out=target/hosts
-    # The kit has no headers: those of hosts/c/libc say what the programs need.
-    "$tools/bin/clang" --target=x86_64-linux-gnu -std=c11 -O2 -fPIE -nostdinc -isystem hosts/c/libc \
-        -Wall -Wextra -Wpedantic -Werror -c -o "$out/$1.o" "speed/$1.c" &&
-        "$tools/bin/ld.lld" -pie -dynamic-linker /lib64/ld-linux-x86-64.so.2 -o "$out/$1" \
-            "$tools/lib/Scrt1.o" "$tools/lib/crti.o" "$out/$1.o" target/staticlib/libgift_host.a "$tools/lib/libc.so.6" "$tools/lib/crtn.o" ||
+    over_library "speed/$1.c" "$out/$1" ||
         { echo "speed/$1: $1.c is not built" >&2; exit 2; }
     run "$out/$1"
 }

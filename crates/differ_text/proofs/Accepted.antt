@@ -90,7 +90,7 @@ pub no-kind : (k : ℕ) (body : List ℕ) → goodValue (suc (suc (suc k))) body
 unfolding goodValue
 no-kind k body e = false≢true e
 
-value-short : (kind : ℕ) (body : List ℕ) → goodValue kind body ≡ true → Bytes body → length (sideText (value kind body)) ≤ 1027
+pub value-short : (kind : ℕ) (body : List ℕ) → goodValue kind body ≡ true → Bytes body → length (sideText (value kind body)) ≤ 1027
 unfolding sideText
 value-short zero body good bytes = omega (arith, decimal-short body bytes)
 value-short (suc zero) body good bytes = omega (arith, decimal-short body bytes)

@@ -69,23 +69,45 @@ decimal-only : (n m : ℕ) → decimalOf n ≡ decimalOf m → n ≡ m
 unfolding decimalOf
 decimal-only n m e = sym (read-back (suc n) n (omega arith)) ∙ ap (λ (l : List ℕ). readBy l 0) e ∙ read-back (suc m) m (omega arith)
 
-digits-free : (c k n : ℕ) → ((d : ℕ) → d < 10 → 48 + d ≢ c) → Free c (lastDigits k n)
+-- digits, and then a byte that is none, whatever it is on either side
+abbrev pub NoDigit : ℕ → Type 0
+NoDigit c = (d : ℕ) → d < 10 → 48 + d ≢ c
+
+data Digits : List ℕ → Type 0 where
+  no-more : Digits []
+  digit : {x : ℕ} {l : List ℕ} (d : ℕ) → d < 10 → x ≡ 48 + d → Digits l → Digits (x ∷ l)
+
+digits-append : (x y : List ℕ) → Digits x → Digits y → Digits (x ++ y)
+digits-append [] y no-more g = g
+digits-append (a ∷ x) y (digit d h is f) g = digit d h is (digits-append x y f g)
+
+digits-end : (c d : ℕ) (x y s t : List ℕ) → NoDigit c → NoDigit d → Digits x → Digits y → x ++ c ∷ s ≡ y ++ d ∷ t → (x ≡ y) × (c ∷ s ≡ d ∷ t)
+digits-end c d [] [] s t f g no-more no-more e = (refl, e)
+digits-end c d [] (b ∷ y) s t f g no-more (digit n h is q) e = let r : c ≡ b = cc in absurd (f n h (sym is ∙ sym r))
+digits-end c d (a ∷ x) [] s t f g (digit n h is q) no-more e = let r : a ≡ d = cc in absurd (g n h (sym is ∙ r))
+digits-end c d (a ∷ x) (b ∷ y) s t f g (digit n h is p) (digit m k js q) e =
+    let r : a ≡ b = cc in
+    let rest : x ++ c ∷ s ≡ y ++ d ∷ t = cc in
+    let z = digits-end c d x y s t f g p q rest in
+    (ap₂ _∷_ r (z .0), z .1)
+
+all-digits : (k n : ℕ) → Digits (lastDigits k n)
 unfolding lastDigits
-digits-free c zero n h = none
-digits-free c (suc k) n h = free-append c (cond (ltb n 10) [] (lastDigits k (n / 10))) ((48 + n % 10) ∷ []) (go (ltb n 10) (digits-free c k (n / 10) h)) (more (h (n % 10) (omega arith)) none)
+all-digits zero n = no-more
+all-digits (suc k) n = digits-append (cond (ltb n 10) [] (lastDigits k (n / 10))) ((48 + n % 10) ∷ []) (go (ltb n 10) (all-digits k (n / 10))) (digit (n % 10) (omega arith) refl no-more)
   where
-    go : (t : Bool) → Free c (lastDigits k (n / 10)) → Free c (cond t [] (lastDigits k (n / 10)))
-    go true f = none
+    go : (t : Bool) → Digits (lastDigits k (n / 10)) → Digits (cond t [] (lastDigits k (n / 10)))
+    go true f = no-more
     go false f = f
 
-decimal-free : (c n : ℕ) → ((d : ℕ) → d < 10 → 48 + d ≢ c) → Free c (decimalOf n)
+decimal-digits : (n : ℕ) → Digits (decimalOf n)
 unfolding decimalOf
-decimal-free c n h = digits-free c (suc n) n h
+decimal-digits n = all-digits (suc n) n
 
 -- a number, and then a byte that is no digit
-decimal-first : (c n m : ℕ) (s t : List ℕ) → ((d : ℕ) → d < 10 → 48 + d ≢ c) → decimalOf n ++ c ∷ s ≡ decimalOf m ++ c ∷ t → (n ≡ m) × (s ≡ t)
-decimal-first c n m s t h e =
-    let p = split c (decimalOf n) (decimalOf m) s t (decimal-free c n h) (decimal-free c m h) e in
+pub decimal-first : (c d n m : ℕ) (s t : List ℕ) → NoDigit c → NoDigit d → decimalOf n ++ c ∷ s ≡ decimalOf m ++ d ∷ t → (n ≡ m) × (c ∷ s ≡ d ∷ t)
+decimal-first c d n m s t h k e =
+    let p = digits-end c d (decimalOf n) (decimalOf m) s t h k (decimal-digits n) (decimal-digits m) e in
     (decimal-only n m (p .0), p .1)
 
 -- ---- text
@@ -173,20 +195,20 @@ number-long body e = eqb-true (length body) 8 e
 abbrev first : List ℕ → ℕ
 first l = getD l 0 0
 
-module _ (c : ℕ) (h : c < 48) (s t : List ℕ) where
-  values-first : (k : ℕ) (x : List ℕ) (m : ℕ) (y : List ℕ) → goodValue k x ≡ true → goodValue m y ≡ true → Bytes x → Bytes y
-      → sideText (value k x) ++ c ∷ s ≡ sideText (value m y) ++ c ∷ t → (value k x ≡ value m y) × (s ≡ t)
+module _ (c d : ℕ) (h : c < 48) (h′ : d < 48) (s t : List ℕ) where
+  pub values-first : (k : ℕ) (x : List ℕ) (m : ℕ) (y : List ℕ) → goodValue k x ≡ true → goodValue m y ≡ true → Bytes x → Bytes y
+      → sideText (value k x) ++ c ∷ s ≡ sideText (value m y) ++ d ∷ t → (value k x ≡ value m y) × (c ∷ s ≡ d ∷ t)
   unfolding sideText
   values-first zero x zero y g g′ bx by e =
-      let p = decimal-first c (fromBytes (take 8 x)) (fromBytes (take 8 y)) s t (λ d k i. omega arith) (ap (drop 5) e) in
+      let p = decimal-first c d (fromBytes (take 8 x)) (fromBytes (take 8 y)) s t (λ n k i. omega arith) (λ n k i. omega arith) (ap (drop 5) e) in
       (ap (value 0) (body-only 1 x y (omega arith) (flag-long x g) (flag-long y g′) bx by (p .0)), p .1)
   values-first (suc zero) x (suc zero) y g g′ bx by e =
-      let p = decimal-first c (fromBytes (take 8 x)) (fromBytes (take 8 y)) s t (λ d k i. omega arith) (ap (drop 7) e) in
+      let p = decimal-first c d (fromBytes (take 8 x)) (fromBytes (take 8 y)) s t (λ n k i. omega arith) (λ n k i. omega arith) (ap (drop 7) e) in
       (ap (value 1) (body-only 8 x y (omega arith) (number-long x g) (number-long y g′) bx by (p .0)), p .1)
   values-first (suc (suc zero)) x (suc (suc zero)) y g g′ bx by e =
-      let q : escaped x ++ 34 ∷ c ∷ s ≡ escaped y ++ 34 ∷ c ∷ t = sym (append-assoc (escaped x) (34 ∷ []) (c ∷ s)) ∙ ap (drop 6) e ∙ append-assoc (escaped y) (34 ∷ []) (c ∷ t) in
-      let p = split 34 (escaped x) (escaped y) (c ∷ s) (c ∷ t) (escaped-free x bx) (escaped-free y by) q in
-      (ap (value 2) (escaped-only x y bx by (p .0)), ap (drop 1) (p .1))
+      let q : escaped x ++ 34 ∷ c ∷ s ≡ escaped y ++ 34 ∷ d ∷ t = sym (append-assoc (escaped x) (34 ∷ []) (c ∷ s)) ∙ ap (drop 6) e ∙ append-assoc (escaped y) (34 ∷ []) (d ∷ t) in
+      let p = split 34 (escaped x) (escaped y) (c ∷ s) (d ∷ t) (escaped-free x bx) (escaped-free y by) q in
+      (ap (value 2) (escaped-only x y bx by (p .0)), p .1)
   values-first zero x (suc zero) y g g′ bx by e = let z : _≡_ {A = ℕ} 102 110 = ap first e in absurd (omega arith)
   values-first zero x (suc (suc m)) y g g′ bx by e = let z : _≡_ {A = ℕ} 102 116 = ap first e in absurd (omega arith)
   values-first (suc zero) x zero y g g′ bx by e = let z : _≡_ {A = ℕ} 110 102 = ap first e in absurd (omega arith)
@@ -210,15 +232,15 @@ module _ (c : ℕ) (h : c < 48) (s t : List ℕ) where
   value-not-117 (suc (suc k)) x l e = omega arith
 
   -- an answer, and then a byte that is no digit
-  side-first : (a a′ : Answer) → Shown a → Shown a′ → sideText a ++ c ∷ s ≡ sideText a′ ++ c ∷ t → (a ≡ a′) × (s ≡ t)
+  side-first : (a a′ : Answer) → Shown a → Shown a′ → sideText a ++ c ∷ s ≡ sideText a′ ++ d ∷ t → (a ≡ a′) × (c ∷ s ≡ d ∷ t)
   unfolding sideText
   side-first a a′ (a-value k x known g bx) (a-value m y known′ g′ by) e = values-first k x m y g g′ bx by e
   side-first a a′ (a-value k x known g bx) an-absence e = absurd (value-begins k x (c ∷ s) 97 (omega arith) (ap first e))
   side-first a a′ (a-value k x known g bx) an-unknown e = absurd (value-not-117 k x (c ∷ s) (ap first e))
-  side-first a a′ an-absence (a-value m y known g by) e = absurd (value-begins m y (c ∷ t) 97 (omega arith) (sym (ap first e)))
-  side-first a a′ an-unknown (a-value m y known g by) e = absurd (value-not-117 m y (c ∷ t) (sym (ap first e)))
-  side-first a a′ an-absence an-absence e = (refl, ap (drop 7) e)
-  side-first a a′ an-unknown an-unknown e = (refl, ap (drop 8) e)
+  side-first a a′ an-absence (a-value m y known g by) e = absurd (value-begins m y (d ∷ t) 97 (omega arith) (sym (ap first e)))
+  side-first a a′ an-unknown (a-value m y known g by) e = absurd (value-not-117 m y (d ∷ t) (sym (ap first e)))
+  side-first a a′ an-absence an-absence e = (refl, ap (drop 6) e)
+  side-first a a′ an-unknown an-unknown e = (refl, ap (drop 7) e)
   side-first a a′ an-absence an-unknown e = let z : _≡_ {A = ℕ} 97 117 = ap first e in absurd (omega arith)
   side-first a a′ an-unknown an-absence e = let z : _≡_ {A = ℕ} 117 97 = ap first e in absurd (omega arith)
 
@@ -230,13 +252,13 @@ unfolding lineText
 shaped b c l = simp append-assoc
 
 pub never-alike : (a a′ : Answer) → Shown a → Shown a′ → sideText a ≡ sideText a′ → a ≡ a′
-never-alike a a′ shown shown′ e = side-first 10 (omega arith) [] [] a a′ shown shown′ (ap (λ (l : List ℕ). l ++ (10 ∷ [])) e) .0
+never-alike a a′ shown shown′ e = side-first 10 10 (omega arith) (omega arith) [] [] a a′ shown shown′ (ap (λ (l : List ℕ). l ++ (10 ∷ [])) e) .0
 
 -- of whole lines: the id and both answers are read back
 pub line-only : (b c b′ c′ : List ℕ) (l l′ : Line) → Shown (meant b (l .one)) → Shown (meant b′ (l′ .one)) → Shown (meant c (l .two)) → Shown (meant c′ (l′ .two)) → lineText b c l ≡ lineText b′ c′ l′
     → (l .id ≡ l′ .id) × (meant b (l .one) ≡ meant b′ (l′ .one)) × (meant c (l .two) ≡ meant c′ (l′ .two))
 line-only b c b′ c′ l l′ s s′ t t′ e =
-    let p = decimal-first 58 (l .id) (l′ .id) _ _ (λ d h e. omega arith) (sym (shaped b c l) ∙ e ∙ shaped b′ c′ l′) in
-    let q = side-first 32 (omega arith) _ _ (meant b (l .one)) (meant b′ (l′ .one)) s s′ (ap (drop 1) (p .1)) in
-    let r = side-first 10 (omega arith) [] [] (meant c (l .two)) (meant c′ (l′ .two)) t t′ (ap (drop 2) (q .1)) in
+    let p = decimal-first 58 58 (l .id) (l′ .id) _ _ (λ d h e. omega arith) (λ d h e. omega arith) (sym (shaped b c l) ∙ e ∙ shaped b′ c′ l′) in
+    let q = side-first 32 32 (omega arith) (omega arith) _ _ (meant b (l .one)) (meant b′ (l′ .one)) s s′ (ap (drop 2) (p .1)) in
+    let r = side-first 10 10 (omega arith) (omega arith) [] [] (meant c (l .two)) (meant c′ (l′ .two)) t t′ (ap (drop 3) (q .1)) in
     (p .0, q .0, r .0)

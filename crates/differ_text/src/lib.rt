@@ -26,7 +26,7 @@ pub const LINE_MOST: usize = 2080;
 
 // ---- laid in a buffer: `at` bytes are there
 
-fn put(out: &mut [u8], at: usize, b: u8) -> usize
+pub fn put(out: &mut [u8], at: usize, b: u8) -> usize
     ensures { λ r. ⌜ ((l o : List ℕ) → Lays l o at (now (out .entry)) → Lays (l ++ (b ∷ [])) o r (now (out .exit))) ⌝ }
 {
     if out.len() <= at {
@@ -36,7 +36,7 @@ fn put(out: &mut [u8], at: usize, b: u8) -> usize
     at + 1
 }
 
-fn put_all(out: &mut [u8], at: usize, bs: &[u8]) -> usize
+pub fn put_all(out: &mut [u8], at: usize, bs: &[u8]) -> usize
     ensures { λ r. ⌜ ((l o : List ℕ) → Lays l o at (now (out .entry)) → Lays (l ++ now (bs .entry)) o r (now (out .exit))) ⌝ }
 {
     let mut n = at;
@@ -62,7 +62,7 @@ fn put_text(out: &mut [u8], at: usize, t: Text) -> usize
     put_all(out, at, &bytes[0..count])
 }
 
-fn put_decimal(out: &mut [u8], at: usize, n: u64) -> usize
+pub fn put_decimal(out: &mut [u8], at: usize, n: u64) -> usize
     ensures { λ r. ⌜ ((l o : List ℕ) → Lays l o at (now (out .entry)) → Lays (l ++ decimalOf n) o r (now (out .exit))) ⌝ }
 {
     let digits = push_decimal(empty(), n);
@@ -150,7 +150,7 @@ fn put_value(out: &mut [u8], at: usize, kind: u32, body: &[u8]) -> usize
     put(out, n, b'"')
 }
 
-fn put_side(out: &mut [u8], at: usize, told: Told, bundle: &[u8]) -> usize
+pub fn put_side(out: &mut [u8], at: usize, told: Told, bundle: &[u8]) -> usize
     ensures { λ r. ⌜ ((l o : List ℕ) → Lays l o at (now (out .entry)) → Lays (l ++ sideText (meant (now (bundle .entry)) told)) o r (now (out .exit))) ⌝ }
 {
     if told.state == VALUE {

@@ -7,5 +7,6 @@ typedef unsigned short uint16_t;
 typedef unsigned int uint32_t;
 typedef unsigned long uint64_t;
 #define UINT32_MAX 4294967295U
+#define UINT64_MAX 18446744073709551615UL
 
 #endif
