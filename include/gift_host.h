@@ -119,8 +119,8 @@ GIFT_HOST_LOOK uint32_t gift_encrypt_blocks(uint32_t order, const uint8_t *key, 
 GIFT_HOST_LOOK uint32_t gift_decrypt_blocks(uint32_t order, const uint8_t *key, size_t key_len, const uint8_t *input, size_t input_len,
                              uint8_t *output, size_t output_len);
 
-/* The same by 80 round words, those of gift_expand or any others: for a host that keeps them. From 128 bytes on eight blocks are done at once, here and
- * in the calls by a key. Refusals: 13, 4, 2, 3. */
+/* The same by 80 round words, those of gift_expand or any others: for a host that keeps them. From 64 bytes on four to
+ * twelve blocks are done at once, and from 1,024 on sixty-four, here and in the calls by a key. Refusals: 13, 4, 2, 3. */
 GIFT_HOST_LOOK uint32_t gift_encrypt_blocks_by_words(uint32_t order, const uint32_t *words, size_t words_len, const uint8_t *input, size_t input_len,
                                       uint8_t *output, size_t output_len);
 GIFT_HOST_LOOK uint32_t gift_decrypt_blocks_by_words(uint32_t order, const uint32_t *words, size_t words_len, const uint8_t *input, size_t input_len,

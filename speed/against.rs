@@ -56,8 +56,7 @@ fn crate_words(key: &[u8; 16]) -> [u32; 80] {
 }
 
 /// Block by block, as the crate has no call on many.
-fn crate_blocks(back: bool, k: [u32; 80], input: &[u8], output: &mut [u8]) {
-    let cipher = Gift128 { k };
+fn crate_blocks(back: bool, cipher: &Gift128, input: &[u8], output: &mut [u8]) {
     for (read, written) in input.chunks_exact(16).zip(output.chunks_exact_mut(16)) {
         let one = InOut { read: read.try_into().unwrap(), written: written.try_into().unwrap() };
         if back {
@@ -130,7 +129,7 @@ impl Held {
             passes,
             (4096 / n as u32).max(1),
             &mut || assert_eq!(unsafe { call(0, key.as_ptr(), 16, input.as_ptr(), n, ours.as_mut_ptr(), n) }, 0),
-            &mut || crate_blocks(back, crate_words(black_box(&key)), input, &mut theirs),
+            &mut || crate_blocks(back, &Gift128 { k: crate_words(black_box(&key)) }, input, &mut theirs),
         );
         assert_eq!(ours, theirs);
         times
@@ -140,11 +139,12 @@ impl Held {
         let call: CallByWords = if back { gift_decrypt_blocks_by_words } else { gift_encrypt_blocks_by_words };
         let (mut ours, mut theirs) = (vec![0; n], vec![0; n]);
         let (words, input) = (black_box(self.words), &self.input[..n]);
+        let cipher = Gift128 { k: words };
         let times = least(
             passes,
             (4096 / n as u32).max(1),
             &mut || assert_eq!(unsafe { call(0, words.as_ptr(), 80, input.as_ptr(), n, ours.as_mut_ptr(), n) }, 0),
-            &mut || crate_blocks(back, *black_box(&words), input, &mut theirs),
+            &mut || crate_blocks(back, black_box(&cipher), input, &mut theirs),
         );
         assert_eq!(ours, theirs);
         times
@@ -153,6 +153,7 @@ impl Held {
     fn one(&self, back: bool, by_key: bool, passes: u32) -> (f64, f64) {
         let (mut ours, mut theirs) = ([7u8; 16], [7u8; 16]);
         let (key, words) = (self.key, self.words);
+        let cipher = Gift128 { k: words };
         let times = least(
             passes,
             64,
@@ -172,8 +173,11 @@ impl Held {
             &mut || {
                 let block = black_box(&mut theirs);
                 let read = *block;
-                let k = if by_key { crate_words(black_box(&key)) } else { *black_box(&words) };
-                crate_blocks(back, k, &read, block);
+                if by_key {
+                    crate_blocks(back, &Gift128 { k: crate_words(black_box(&key)) }, &read, block);
+                } else {
+                    crate_blocks(back, black_box(&cipher), &read, block);
+                }
             },
         );
         assert_eq!(ours, theirs);
@@ -211,7 +215,7 @@ impl Held {
         let mut last = [0; 16];
         let mut counter = [5u8; 16];
         counter[12..].copy_from_slice(&((n / 16 - 1) as u32).to_be_bytes());
-        crate_blocks(false, crate_words(&key), &counter, &mut last);
+        crate_blocks(false, &Gift128 { k: crate_words(&key) }, &counter, &mut last);
         assert!((0..16).all(|i| streamed[n - 16 + i] == input[n - 16 + i] ^ last[i]));
         times
     }

@@ -251,10 +251,10 @@ fn decrypt_lanes(s: Three, rkey: &[u32], third: bool) -> Three
     while 0 < i {
         i -= 5;
         let at = 2 * i;
-        let p = part_at(&rkey[at..], i);
-        x = each_unround(x, p);
-        y = each_unround(y, p);
-        z = some_unround(third, z, p);
+        let q = part_at(&rkey[at..], i);
+        x = each_unround(x, q);
+        y = each_unround(y, q);
+        z = some_unround(third, z, q);
     }
     Three { x, y, z }
 }
