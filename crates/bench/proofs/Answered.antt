@@ -15,7 +15,7 @@ use Rattle.bench_turns.specs.declared.Bench.{Bench}
 use Rattle.bench_turns.specs.Turning.{lane_at, turned_by, served_by}
 use Rattle.bench_turns.specs.Sound.{sound_bench}
 use Rattle.bench_turns.proofs.Soundness.{is_sound}
-use Rattle.bench_turns.proofs.Made.{made-is}
+use Rattle.bench_turns.proofs.Made.{made_is}
 use Rattle.bench.specs.declared.Answer.{Answer}
 use Rattle.bench.specs.Calls.{put, answered, open_of, turn_of, take_of, taken_bytes, close_of}
 
@@ -59,7 +59,7 @@ module _ (b : Bench) {s : Bool} (sound : s ≡ sound_bench b) {r : ℕ} where
     pub turn-done : r ≡ 0 → {made : ℕ} {d : Bench} → made ≡ length (served_by asked b) → d ≡ turned_by asked b → answer r made d ≡ turn_of b asked
     unfolding turn_of
     turn-done z m e =
-        done _ _ _ _ turn-told z (m ∙ made-is asked b (is_sound b (turn-passed (sound_bench b) asked (sym turn-told ∙ z)).is_sound)) e
+        done _ _ _ _ turn-told z (m ∙ made_is asked b (is_sound b (turn-passed (sound_bench b) asked (sym turn-told ∙ z)).is_sound)) e
 
   module _ (lane caller : ℕ) (out : List ℕ) {a : Bool} (admitted : a ≡ admits (lane_at b.lanes lane) caller) {p : ℕ} (phase : p ≡ (lane_at b.lanes lane).phase) (code : r ≡ take_code s lane a p (length out)) where
     take-told : r ≡ take_code (sound_bench b) lane (admits (lane_at b.lanes lane) caller) (lane_at b.lanes lane).phase (length out)

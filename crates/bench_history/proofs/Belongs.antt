@@ -21,15 +21,15 @@ use Rattle.bench_history.specs.History.{Call, taking, closing, answer_to, leaves
 use Rattle.bench_history.specs.Promises.{BusyFor, ShutTo, Early, Admission, OwnerStays, Belongs, Refused}
 use Rattle.bench_history.proofs.Effects.{refused}
 use Rattle.bench_history.proofs.Touched.{Touch, touch, same, entered, left, served as serving}
-use Rattle.bench_history.proofs.Standing.{stand-turns, stand}
+use Rattle.bench_history.proofs.Standing.{stand_turns, stand}
 
 -- ---- whom a busy lane admits
 
 pub owner-admitted : (w : ℕ) (l : Lane) → BusyFor w l → admits l w ≡ true
 owner-admitted w l for = busy-admits l w for.busy ∙ eq-eqb l.owner w for.owner
 
-other-shut : (w : ℕ) (l : Lane) → BusyFor w l → (caller : ℕ) → caller ≢ w → admits l caller ≡ false
-other-shut w l for caller ne = busy-admits l caller for.busy ∙ ne_eqb l.owner caller (λ e. ne (sym e ∙ for.owner))
+other_shut : (w : ℕ) (l : Lane) → BusyFor w l → (caller : ℕ) → caller ≢ w → admits l caller ≡ false
+other_shut w l for caller ne = busy-admits l caller for.busy ∙ ne_eqb l.owner caller (λ e. ne (sym e ∙ for.owner))
 
 -- ---- a sound bench
 
@@ -50,38 +50,38 @@ module _ (b : Bench) (s : Sound b) (n : ℕ) (lane_lt : n < lane_count) where
 
   -- a busy lane, another number: 11, of a finished lane too and whatever the buffer
   module _ (w : ℕ) (for : BusyFor w (lane_at b.lanes n)) (caller : ℕ) (ne : caller ≢ w) where
-    take-11 : (out : List ℕ) → (take_of b n caller out).code ≡ NOT_THE_OWNER
+    take_11 : (out : List ℕ) → (take_of b n caller out).code ≡ NOT_THE_OWNER
     unfolding take_of answered take_code
-    take-11 out = rw (says_sound b s, lt-ltb n lane_count lane_lt, other-shut w (lane_at b.lanes n) for caller ne)
+    take_11 out = rw (says_sound b s, lt-ltb n lane_count lane_lt, other_shut w (lane_at b.lanes n) for caller ne)
 
-    close-11 : (close_of b n caller).code ≡ NOT_THE_OWNER
+    close_11 : (close_of b n caller).code ≡ NOT_THE_OWNER
     unfolding close_of answered close_code
-    close-11 = rw (says_sound b s, lt-ltb n lane_count lane_lt, other-shut w (lane_at b.lanes n) for caller ne)
+    close_11 = rw (says_sound b s, lt-ltb n lane_count lane_lt, other_shut w (lane_at b.lanes n) for caller ne)
 
-    pub shut-to : ShutTo caller b n
-    shut-to =
-        record { take = λ out. take_refusal caller NOT_THE_OWNER out refl (take-11 out); close = close_refusal caller NOT_THE_OWNER refl close-11 }
+    pub shut_to : ShutTo caller b n
+    shut_to =
+        record { take = λ out. take_refusal caller NOT_THE_OWNER out refl (take_11 out); close = close_refusal caller NOT_THE_OWNER refl close_11 }
 
   -- a lane that admits the caller: a take gives 7 until it is finished, then 2 or the bytes; a close is done
   module _ (caller : ℕ) (in-it : admits (lane_at b.lanes n) caller ≡ true) where
-    take-7 : (lane_at b.lanes n).phase ≢ finished → (out : List ℕ) → (take_of b n caller out).code ≡ LANE_NOT_FINISHED
+    take_7 : (lane_at b.lanes n).phase ≢ finished → (out : List ℕ) → (take_of b n caller out).code ≡ LANE_NOT_FINISHED
     unfolding take_of answered take_code
-    take-7 ne out = rw (says_sound b s, lt-ltb n lane_count lane_lt, in-it, ne_eqb (lane_at b.lanes n).phase finished ne)
+    take_7 ne out = rw (says_sound b s, lt-ltb n lane_count lane_lt, in-it, ne_eqb (lane_at b.lanes n).phase finished ne)
 
     pub early-take : (lane_at b.lanes n).phase ≢ finished → Early caller b n
-    early-take ne out = take_refusal caller LANE_NOT_FINISHED out refl (take-7 ne out)
+    early-take ne out = take_refusal caller LANE_NOT_FINISHED out refl (take_7 ne out)
 
-    take-2 : (lane_at b.lanes n).phase ≡ finished → (out : List ℕ) → length out ≢ 16 → (take_of b n caller out).code ≡ BAD_BLOCK_LENGTH
+    take_2 : (lane_at b.lanes n).phase ≡ finished → (out : List ℕ) → length out ≢ 16 → (take_of b n caller out).code ≡ BAD_BLOCK_LENGTH
     unfolding take_of answered take_code
-    take-2 p out ne = rw (says_sound b s, lt-ltb n lane_count lane_lt, in-it, p, ne_eqb (length out) 16 ne)
+    take_2 p out ne = rw (says_sound b s, lt-ltb n lane_count lane_lt, in-it, p, ne_eqb (length out) 16 ne)
 
     pub take_0 : (lane_at b.lanes n).phase ≡ finished → (out : List ℕ) → length out ≡ 16 → (take_of b n caller out).code ≡ DONE
     unfolding take_of answered take_code
     take_0 p out e = rw (says_sound b s, lt-ltb n lane_count lane_lt, in-it, p, e)
 
-    close-0 : (close_of b n caller).code ≡ DONE
+    close_0 : (close_of b n caller).code ≡ DONE
     unfolding close_of answered close_code
-    close-0 = rw (says_sound b s, lt-ltb n lane_count lane_lt, in-it)
+    close_0 = rw (says_sound b s, lt-ltb n lane_count lane_lt, in-it)
 
 -- the table of refusal 11
 pub admission : (b : Bench) → sound_bench b ≡ true → (n : ℕ) → n < lane_count → Admission b n
@@ -90,12 +90,12 @@ admission b ok n h =
     let l : Lane = lane_at b.lanes n in
     record {
       idle_take = λ e caller. early-take b s n h caller (idle-admits l caller e) (λ p. eqb-false 0 2 refl (sym e ∙ p));
-      idle_close = λ e caller. close-0 b s n h caller (idle-admits l caller e);
+      idle_close = λ e caller. close_0 b s n h caller (idle-admits l caller e);
       own_early = λ w for p. early-take b s n h w (owner-admitted w l for) (λ q. eqb-false 1 2 refl (sym p ∙ q));
-      own_wrong = λ w for p out ne. take_refusal b s n h w BAD_BLOCK_LENGTH out refl (take-2 b s n h w (owner-admitted w l for) p out ne);
+      own_wrong = λ w for p out ne. take_refusal b s n h w BAD_BLOCK_LENGTH out refl (take_2 b s n h w (owner-admitted w l for) p out ne);
       own_take = λ w for p out e. take_0 b s n h w (owner-admitted w l for) p out e;
-      own_close = λ w for. close-0 b s n h w (owner-admitted w l for);
-      others = λ w for caller ne. shut-to b s n h w for caller ne;
+      own_close = λ w for. close_0 b s n h w (owner-admitted w l for);
+      others = λ w for caller ne. shut_to b s n h w for caller ne;
     }
 
 -- ---- any calls
@@ -110,7 +110,7 @@ owner-stays b ok c n w for busy = go (touch n b c)
     go (entered h) = absurd (for.busy h.was_idle)
     go (left h) = absurd (busy (ap (λ (l : Lane). l.phase) h.wiped))
     go (serving asked e l z) =
-        ap (λ (d : Bench). (lane_at d.lanes n).owner) e ∙ (stand-turns n asked b (is_sound b ok)).owner ∙ for.owner
+        ap (λ (d : Bench). (lane_at d.lanes n).owner) e ∙ (stand_turns n asked b (is_sound b ok)).owner ∙ for.owner
 
 -- it is its owner's until its owner releases it
 pub belongs : (b : Bench) → sound_bench b ≡ true → (cs : List Call) → Belongs b cs

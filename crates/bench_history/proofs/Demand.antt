@@ -33,11 +33,11 @@ use Rattle.bench.specs.Calls.{fresh_bench, answered, take_of, taken_bytes}
 use Rattle.bench_history.specs.History.{Call, opening, turning, taking, closing, answer_to, code_of, leaves, run, log, times, closes, releases, never, served_times}
 use Rattle.bench_history.specs.Promises.{reached, onward, owning, ordering, answer, BusyFor, ShutTo, Opening, call, calls, end, finds, left, made, own, Accepted, Unclosed, Kept, Stands, InTime, Held}
 use Rattle.bench_history.proofs.Accepted.{OpenDone, opens, takes}
-use Rattle.bench_history.proofs.Touched.{sound-leaves, put-here, Touch, touch, same, entered, left as leaving, served as serving}
-use Rattle.bench_history.proofs.Belongs.{owner-admitted, shut-to, early-take}
+use Rattle.bench_history.proofs.Touched.{sound-leaves, put_here, Touch, touch, same, entered, left as leaving, served as serving}
+use Rattle.bench_history.proofs.Belongs.{owner-admitted, shut_to, early-take}
 use Rattle.bench_history.proofs.Standing.{times-append, After, stand, turns_wake_none}
 use Rattle.bench_history.proofs.Waiting.{waits}
-use Rattle.bench_history.proofs.Quintuples.{reached-lt, turns_are_rounds, phase-by-count, reach, yields}
+use Rattle.bench_history.proofs.Quintuples.{reached-lt, turns_are_rounds, phase_by_count, reach, yields}
 
 -- ---- histories
 
@@ -93,13 +93,13 @@ module _ (o : Opening) (ok : Accepted o) where
   did : OpenDone (finds o) o.lane o.owner o.direction o.order o.key o.block
   did = opens (finds o) o.lane o.owner o.direction o.order o.key o.block ok
 
-  left-sound : Sound (left o)
-  left-sound = sound-leaves (finds o) (call o) did.sound
+  left_sound : Sound (left o)
+  left_sound = sound-leaves (finds o) (call o) did.sound
 
   left_lane : lane_at (left o).lanes o.lane ≡ opened o.owner o.direction o.order o.key o.block
   left_lane =
       ap (λ (d : Bench). lane_at d.lanes o.lane) did.left
-      ∙ put-here (finds o) o.lane (opened o.owner o.direction o.order o.key o.block) did.sound did.lane_lt
+      ∙ put_here (finds o) o.lane (opened o.owner o.direction o.order o.key o.block) did.sound did.lane_lt
 
   end_is : end o ≡ run (left o) o.since
   unfolding run
@@ -109,25 +109,25 @@ module _ (o : Opening) (ok : Accepted o) where
   end-sound = run_sound (calls o) fresh_bench fresh_sound
 
   -- what is opened runs, is its owner's, and lacks eight turns
-  left-owner : (lane_at (left o).lanes o.lane).owner ≡ o.owner
+  left_owner : (lane_at (left o).lanes o.lane).owner ≡ o.owner
   unfolding opened
-  left-owner = ap (λ (l : Lane). l.owner) left_lane
+  left_owner = ap (λ (l : Lane). l.owner) left_lane
 
   left_busy : BusyFor o.owner (lane_at (left o).lanes o.lane)
   unfolding opened
-  left_busy = record { busy = λ e. eqb-false 1 0 refl (sym (ap (λ (l : Lane). l.phase) left_lane) ∙ e); owner = left-owner }
+  left_busy = record { busy = λ e. eqb-false 1 0 refl (sym (ap (λ (l : Lane). l.phase) left_lane) ∙ e); owner = left_owner }
 
-  left-lacks : lacks (lane_at (left o).lanes o.lane) ≡ 8
+  left_lacks : lacks (lane_at (left o).lanes o.lane) ≡ 8
   unfolding lacks opened
-  left-lacks = ap lacks left_lane
+  left_lacks = ap lacks left_lane
 
   -- among the first 128 turns made on the bench since, eight are the lane's own
   pub in_time : Unclosed o → InTime o
-  in_time still = waits o.lane o.owner (left o) o.since 8 left-sound did.lane_lt left-lacks left-owner still
+  in_time still = waits o.lane o.owner (left o) o.since 8 left_sound did.lane_lt left_lacks left_owner still
 
   module _ (kept : Kept o) where
     stood : After (opened o.owner o.direction o.order o.key o.block) (own o) (lane_at (end o).lanes o.lane)
-    stood = rw (end_is, ← left_lane) (stand o.lane o.owner o.since (left o) left-sound left_busy kept)
+    stood = rw (end_is, ← left_lane) (stand o.lane o.owner o.since (left o) left_sound left_busy kept)
 
     -- it is still its owner's, and shut to all others
     pub end-busy : BusyFor o.owner (lane_at (end o).lanes o.lane)
@@ -135,7 +135,7 @@ module _ (o : Opening) (ok : Accepted o) where
     end-busy = record { busy = stood.busy (eqb-false 1 0 refl); owner = stood.owner }
 
     pub shut : (caller : ℕ) → caller ≢ o.owner → ShutTo caller (end o) o.lane
-    shut caller ne = shut-to (end o) end-sound o.lane did.lane_lt o.owner end-busy caller ne
+    shut caller ne = shut_to (end o) end-sound o.lane did.lane_lt o.owner end-busy caller ne
 
     at_most : own o ≤ 8
     unfolding opened
@@ -170,18 +170,18 @@ module _ (o : Opening) (ok : Accepted o) where
           stood.is
           ∙ reach o.owner o.direction o.order o.key o.block ((orders o.order).block o.block did.block_long bytes) did.ordered did.key_long did.block_long (own o) at_most
 
-      phase-is : (lane_at (end o).lanes o.lane).phase ≡ cond (leb 8 (own o)) finished running
+      phase_is : (lane_at (end o).lanes o.lane).phase ≡ cond (leb 8 (own o)) finished running
       unfolding onward opened
-      phase-is = ap (λ (l : Lane). l.phase) here ∙ ap (λ (k : ℕ). cond (leb 8 k) finished running) (zero-add (own o))
+      phase_is = ap (λ (l : Lane). l.phase) here ∙ ap (λ (k : ℕ). cond (leb 8 k) finished running) (zero-add (own o))
 
       runs-early : own o < 8 → (lane_at (end o).lanes o.lane).phase ≡ running
-      runs-early h = phase-is ∙ ap (λ (t : Bool). cond t finished running) (lt-leb 8 (own o) h)
+      runs-early h = phase_is ∙ ap (λ (t : Bool). cond t finished running) (lt-leb 8 (own o) h)
 
       module _ (out : List ℕ) where
         ready-code : own o ≡ 8 → length out ≡ 16 → (take_of (end o) o.lane o.owner out).code ≡ DONE
         unfolding take_of answered take_code
         ready-code h e =
-            rw (says_sound (end o) end-sound, lt-ltb o.lane lane_count did.lane_lt, owner-admitted o.owner (lane_at (end o).lanes o.lane) end-busy, phase-is, h, e)
+            rw (says_sound (end o) end-sound, lt-ltb o.lane lane_count did.lane_lt, owner-admitted o.owner (lane_at (end o).lanes o.lane) end-busy, phase_is, h, e)
 
         ready-bytes : own o ≡ 8 → length out ≡ 16 → taken_bytes (end o) o.lane o.owner out ≡ answer o.direction o.order o.key o.block
         unfolding onward opened
@@ -333,32 +333,32 @@ none_escapes cs bytes n busy =
 -- ---- sound records that no call made are served as well, with the words that they hold
 
 module _ (b : Bench) (ok : sound_bench b ≡ true) (n : ℕ) (cs : List Call) where
-  pub served-on : (w : ℕ) → BusyFor w (lane_at b.lanes n) → never (releases n w) b cs ≡ true
+  pub served_on : (w : ℕ) → BusyFor w (lane_at b.lanes n) → never (releases n w) b cs ≡ true
       → lane_at (run b cs).lanes n ≡ served_times (times n (log b cs)) (lane_at b.lanes n)
-  served-on w own kept = (stand n w cs b (is_sound b ok) own kept).is
+  served_on w own kept = (stand n w cs b (is_sound b ok) own kept).is
 
   -- it stands at the rounds that its words stand for, from where it was, and yields what they make
   module _ (hn : n < lane_count) (w : ℕ) (own : BusyFor w (lane_at b.lanes n)) (kept : never (releases n w) b cs ≡ true) (eighty : length (lane_at b.lanes n).words ≡ 80) (fit : Words (lane_at b.lanes n).state) where
-    pub served-by-its-words : lane_at (run b cs).lanes n ≡ onward (pairs_from 0 (lane_at b.lanes n).words) (times n (log b cs)) (lane_at b.lanes n)
-    served-by-its-words =
+    pub served_by_its_words : lane_at (run b cs).lanes n ≡ onward (pairs_from 0 (lane_at b.lanes n).words) (times n (log b cs)) (lane_at b.lanes n)
+    served_by_its_words =
         let was : Lane = lane_at b.lanes n in
         let after : After was (times n (log b cs)) (lane_at (run b cs).lanes n) = stand n w cs b (is_sound b ok) own kept in
         after.is
-        ∙ turns_are_rounds was eighty (phase-by-count was ((is_sound b ok).each n hn) own.busy) (state_of_block_of was.state fit) (times n (log b cs))
+        ∙ turns_are_rounds was eighty (phase_by_count was ((is_sound b ok).each n hn) own.busy) (state_of_block_of was.state fit) (times n (log b cs))
         (omega (arith, after.counted, sound-count (lane_at (run b cs).lanes n) ((run_sound cs b (is_sound b ok)).each n hn)))
 
-    pub yields-by-its-words : (out : List ℕ) → (take_of (run b cs) n w out).code ≡ DONE
+    pub yields_by_its_words : (out : List ℕ) → (take_of (run b cs) n w out).code ≡ DONE
         → taken_bytes (run b cs) n w out
         ≡ write_in (lane_at b.lanes n).order
         (reached (lane_at b.lanes n).direction (pairs_from 0 (lane_at b.lanes n).words) (lane_at b.lanes n).count (times n (log b cs)) (block_of (lane_at b.lanes n).state))
     unfolding taken_bytes answer_to onward
-    yields-by-its-words out e =
+    yields_by_its_words out e =
         let was : Lane = lane_at b.lanes n in
         let l : Lane = lane_at (run b cs).lanes n in
         let busy : l.phase ≢ idle = (stand n w cs b (is_sound b ok) own kept).busy own.busy in
         if_done_lem _ _ out e
         ∙ yielded-bytes l out (tidy l ((run_sound cs b (is_sound b ok)).each n hn) busy).ordered (takes (run b cs) n w out e).out_long
-        ∙ ap (λ (m : Lane). write_in m.order (block_of m.state)) served-by-its-words
+        ∙ ap (λ (m : Lane). write_in m.order (block_of m.state)) served_by_its_words
         ∙ ap (write_in was.order) (block_of_state_of _ (reached-lt was.direction (pairs_from 0 was.words) was.count (times n (log b cs)) (block_of was.state) (block_of_lt was.state)))
 
   pub served_in_time : n < lane_count → never (closes n (lane_at b.lanes n).owner) b cs ≡ true → lane_count * lacks (lane_at b.lanes n) ≤ length (log b cs)

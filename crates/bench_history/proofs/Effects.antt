@@ -19,13 +19,13 @@ use Rattle.bench_turns.specs.Turning.{lane_at, chosen, any_runs, turned, turned_
 use Rattle.bench_turns.specs.Sound.{sound_bench}
 use Rattle.bench_turns.proofs.Soundness.{Sound, is_sound, says_sound}
 use Rattle.bench_turns.proofs.Seeking.{phase-runs, runs_any}
-use Rattle.bench_turns.proofs.Made.{turned-is, turned_none, sound-turned, by-turns, made-is, counts-more}
+use Rattle.bench_turns.proofs.Made.{turned_is, turned_none, sound-turned, by_turns, made_is, counts_more}
 use Rattle.bench.specs.Calls.{put, answered, turn_of, taken_bytes}
 use Rattle.bench_history.specs.History.{Call, opening, turning, taking, closing, answer_to, code_of, leaves, asks, serves, run, log, last_of, names}
 use Rattle.bench_history.specs.Promises.{Turning, Refused, Frame}
 use Rattle.bench_history.proofs.Accepted.{refused-leaves, refused-tells, refused-serves, TurnDone, turns, opens, takes, closings}
-use Rattle.bench_history.proofs.Touched.{sound-leaves, put-there, put_last}
-use Rattle.bench_history.proofs.Standing.{stand-turns}
+use Rattle.bench_history.proofs.Touched.{sound-leaves, put_there, put_last}
+use Rattle.bench_history.proofs.Standing.{stand_turns}
 
 -- ---- refusals
 
@@ -62,7 +62,7 @@ done-frame b c (makes left named) =
     }
 done-frame b c (puts lane l left named) =
     record {
-      lanes = λ n h. ap (λ (d : Bench). lane_at d.lanes n) left ∙ put-there b lane l n (λ q. eqb-false lane n (sym (named n) ∙ h) (sym q));
+      lanes = λ n h. ap (λ (d : Bench). lane_at d.lanes n) left ∙ put_there b lane l n (λ q. eqb-false lane n (sym (named n) ∙ h) (sym q));
       last = λ h. ap (λ (d : Bench). d.last) left ∙ put_last b lane l;
     }
 
@@ -79,50 +79,50 @@ frame b c =
 -- ---- turns
 
 module _ (b : Bench) (s : Sound b) where
-  one-done : code_of b (turning 1) ≡ 0
+  one_done : code_of b (turning 1) ≡ 0
   unfolding answer_to turn_of answered turn_code
-  one-done = rw (says_sound b s)
+  one_done = rw (says_sound b s)
 
   one_left : leaves b (turning 1) ≡ turned b
   unfolding turned_by
-  one_left = (turns b 1 one-done).left
+  one_left = (turns b 1 one_done).left
 
-  one-logged : serves b (turning 1) ≡ cond (any_runs b) (chosen b ∷ []) []
+  one_logged : serves b (turning 1) ≡ cond (any_runs b) (chosen b ∷ []) []
   unfolding served_by
-  one-logged = (turns b 1 one-done).logged
+  one_logged = (turns b 1 one_done).logged
 
 singly : (k : ℕ) (b : Bench) → Sound b → run b (replicate k (turning 1)) ≡ turned_by k b
 unfolding run turned_by
 singly zero b s = refl
 singly (suc k) b s = ap (λ (d : Bench). run d (replicate k (turning 1))) (one_left b s) ∙ singly k (turned b) (sound-turned b s)
 
-none-logged : (k : ℕ) (b : Bench) → Sound b → any_runs b ≡ false → log b (replicate k (turning 1)) ≡ []
+none_logged : (k : ℕ) (b : Bench) → Sound b → any_runs b ≡ false → log b (replicate k (turning 1)) ≡ []
 unfolding log
-none-logged zero b s none = refl
-none-logged (suc k) b s none =
-    rw (one-logged b s, none, one_left b s, turned_none b none) (none-logged k b s none)
+none_logged zero b s none = refl
+none_logged (suc k) b s none =
+    rw (one_logged b s, none, one_left b s, turned_none b none) (none_logged k b s none)
 
 singly_logged : (k : ℕ) (b : Bench) → Sound b → log b (replicate k (turning 1)) ≡ served_by k b
 unfolding log
 singly_logged =
-    by-turns (λ k b is e. log b (replicate k (turning 1)) ≡ is) (λ b. refl) (λ k b s none. none-logged (suc k) b s none)
-    (λ k b is e s any h. rw (one-logged b s, any, one_left b s, h))
+    by_turns (λ k b is e. log b (replicate k (turning 1)) ≡ is) (λ b. refl) (λ k b s none. none_logged (suc k) b s none)
+    (λ k b is e s any h. rw (one_logged b s, any, one_left b s, h))
 
 risen : (k : ℕ) (b : Bench) → Sound b → total (λ l. l.count) (turned_by k b).lanes ≡ total (λ l. l.count) b.lanes + length (served_by k b)
 risen =
-    by-turns (λ k b is e. total (λ l. l.count) e.lanes ≡ total (λ l. l.count) b.lanes + length is) (λ b. omega arith) (λ k b s none. omega arith)
-    (λ k b is e s any h. omega (arith, h, counts-more b any s))
+    by_turns (λ k b is e. total (λ l. l.count) e.lanes ≡ total (λ l. l.count) b.lanes + length is) (λ b. omega arith) (λ k b s none. omega arith)
+    (λ k b is e s any h. omega (arith, h, counts_more b any s))
 
 to_the_end : (k : ℕ) (b : Bench) → Sound b → any_runs (turned_by k b) ≡ true → length (served_by k b) ≡ k
 to_the_end =
-    by-turns (λ k b is e. any_runs e ≡ true → length is ≡ k) (λ b h. refl) (λ k b s none h. absurd (false≢true (sym none ∙ h)))
+    by_turns (λ k b is e. any_runs e ≡ true → length is ≡ k) (λ b h. refl) (λ k b s none h. absurd (false≢true (sym none ∙ h)))
     (λ k b is e s any h r. ap suc (h r))
 
 last-served : (k : ℕ) (b : Bench) → Sound b → (turned_by k b).last ≡ last_of b.last (served_by k b)
 unfolding last_of
 last-served =
-    by-turns (λ k b is e. e.last ≡ last_of b.last is) (λ b. refl) (λ k b s none. refl)
-    (λ k b is e s any h. h ∙ ap (λ (d : Bench). last_of d.last is) (turned-is b any))
+    by_turns (λ k b is e. e.last ≡ last_of b.last is) (λ b. refl) (λ k b s none. refl)
+    (λ k b is e s any h. h ∙ ap (λ (d : Bench). last_of d.last is) (turned_is b any))
 
 told_is : (b : Bench) (asked : ℕ) → code_of b (turning asked) ≡ 0 → (turn_of b asked).made ≡ min asked (total lacks b.lanes)
 unfolding answer_to turn_of answered
@@ -133,7 +133,7 @@ turning-done b asked e =
     let t : TurnDone b asked = turns b asked e in
     let s : Sound b = t.sound in
     let told : (turn_of b asked).made ≡ min asked (total lacks b.lanes) = told_is b asked e in
-    let logged : length (serves b (turning asked)) ≡ (turn_of b asked).made = ap length t.logged ∙ made-is asked b s ∙ sym told in
+    let logged : length (serves b (turning asked)) ≡ (turn_of b asked).made = ap length t.logged ∙ made_is asked b s ∙ sym told in
     record {
       told = told;
       logged = logged;
@@ -141,7 +141,7 @@ turning-done b asked e =
       to_the_end = λ n h r. sym logged ∙ ap length t.logged ∙ to_the_end asked b s (rw t.left at (runs_any (leaves b (turning asked)) n h (phase-runs (leaves b (turning asked)).lanes n r)));
       singly = singly asked b s ∙ sym t.left;
       singly_logged = singly_logged asked b s ∙ sym t.logged;
-      lanes = λ n. rw (t.left, t.logged) (stand-turns n asked b s).is;
+      lanes = λ n. rw (t.left, t.logged) (stand_turns n asked b s).is;
       last = rw (t.left, t.logged) (last-served asked b s);
     }
 

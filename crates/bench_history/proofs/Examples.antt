@@ -156,9 +156,9 @@ latest =
           ∷ taking last other (bytes 16) ∷ [];
     }
 
-reached-by-one : Accepted latest × Unclosed latest × Kept latest × (length (made latest) ≡ lane_count * 8) × (times last (take (lane_count * 8 - 1) (made latest)) ≡ 7) × (own latest ≡ 8)
+reached_by_one : Accepted latest × Unclosed latest × Kept latest × (length (made latest) ≡ lane_count * 8) × (times last (take (lane_count * 8 - 1) (made latest)) ≡ 7) × (own latest ≡ 8)
 unfolding
     bytes guest other encrypts decrypts last open_all sound_count sound_lane admits everything all_zero idle_lane opened served lane_count runs after seek chosen any_runs turned turned_by served_by lacks total
     fresh_bench all_sound sound_bench put answered open_code open_of turn_code turn_of take_code take_of close_code close_of answer_to asks serves run log
     latest times never closes releases
-reached-by-one = (refl, refl, refl, refl, refl, refl)
+reached_by_one = (refl, refl, refl, refl, refl, refl)

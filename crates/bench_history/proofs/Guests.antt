@@ -17,7 +17,7 @@ use Rattle.packing.specs.Packing.{packed}
 use Rattle.gift128.specs.Calls.{new_words}
 use Rattle.lane.specs.declared.Lane.{Lane}
 use Rattle.lane.specs.Record.{idle, running, finished, idle_lane, sound_lane, admits}
-use Rattle.lane.proofs.Records.{busy-is, busy-admits}
+use Rattle.lane.proofs.Records.{busy_is, busy-admits}
 use Rattle.lane_turns.specs.Turns.{opened, advanced, served, lacks, yielded}
 use Rattle.lane_turns.proofs.Serving.{next}
 use Rattle.bench_orders.specs.Orders.{lane_count, open_code, turn_code, take_code, close_code}
@@ -54,7 +54,7 @@ module _ (g : ℕ) where
 
   like_sound : (k l : Lane) → Like k l → sound_lane k ≡ sound_lane l
   like_sound k l (self x) = refl
-  like_sound k l (veil phase direction owner count order ws vs s r busy ne) = busy-is k busy ∙ sym (busy-is l busy)
+  like_sound k l (veil phase direction owner count order ws vs s r busy ne) = busy_is k busy ∙ sym (busy_is l busy)
 
   -- what g may take from is the same
   like_own : (k l : Lane) → Like k l → admits k g ≡ true → k ≡ l
@@ -133,25 +133,25 @@ module _ (g : ℕ) where
     like_lane : (n : ℕ) → Like (lane_at b.lanes n) (lane_at d.lanes n)
     like_lane n = likes_at b.lanes d.lanes h.lanes n
 
-    sound-alike : sound_bench b ≡ sound_bench d
+    sound_alike : sound_bench b ≡ sound_bench d
     unfolding sound_bench
-    sound-alike =
+    sound_alike =
         λ i. eqb (likes_length b.lanes d.lanes h.lanes i) lane_count && ltb (h.last i) lane_count && likes_sound b.lanes d.lanes h.lanes i
 
-    chosen-alike : chosen b ≡ chosen d
+    chosen_alike : chosen b ≡ chosen d
     unfolding chosen
-    chosen-alike =
+    chosen_alike =
         ap (λ (n : ℕ). seek lane_count b.lanes (after n)) h.last ∙ likes_seek b.lanes d.lanes h.lanes lane_count (after d.last)
 
-    phase-alike : (n : ℕ) → (lane_at b.lanes n).phase ≡ (lane_at d.lanes n).phase
-    phase-alike n = like_phase _ _ (like_lane n)
+    phase_alike : (n : ℕ) → (lane_at b.lanes n).phase ≡ (lane_at d.lanes n).phase
+    phase_alike n = like_phase _ _ (like_lane n)
 
-    admits-alike : (n caller : ℕ) → admits (lane_at b.lanes n) caller ≡ admits (lane_at d.lanes n) caller
-    admits-alike n caller = like_admits _ _ (like_lane n) caller
+    admits_alike : (n caller : ℕ) → admits (lane_at b.lanes n) caller ≡ admits (lane_at d.lanes n) caller
+    admits_alike n caller = like_admits _ _ (like_lane n) caller
 
   like_turned : (b d : Bench) → LikeBench b d → LikeBench (turned b) (turned d)
   unfolding turned any_runs
-  like_turned b d h = go (chosen b) (chosen d) (chosen-alike b d h)
+  like_turned b d h = go (chosen b) (chosen d) (chosen_alike b d h)
     where
       at : (m n : ℕ) → m ≡ n → (t : Bool)
           → LikeBench (cond t (record { lanes = set b.lanes m (served (lane_at b.lanes m)); last = m }) b)
@@ -188,10 +188,10 @@ module _ (g : ℕ) where
     code_benches : (c : Call) → code_of b c ≡ code_of d c
     unfolding answer_to open_of turn_of take_of close_of answered
     code_benches (opening lane owner direction order key block) =
-        λ i. open_code (sound-alike b d h i) lane (phase-alike b d h lane i) owner direction order (length key) (length block)
-    code_benches (turning asked) = λ i. turn_code (sound-alike b d h i) asked
-    code_benches (taking lane caller out) = λ i. take_code (sound-alike b d h i) lane (admits-alike b d h lane caller i) (phase-alike b d h lane i) (length out)
-    code_benches (closing lane caller) = λ i. close_code (sound-alike b d h i) lane (admits-alike b d h lane caller i)
+        λ i. open_code (sound_alike b d h i) lane (phase_alike b d h lane i) owner direction order (length key) (length block)
+    code_benches (turning asked) = λ i. turn_code (sound_alike b d h i) asked
+    code_benches (taking lane caller out) = λ i. take_code (sound_alike b d h i) lane (admits_alike b d h lane caller i) (phase_alike b d h lane i) (length out)
+    code_benches (closing lane caller) = λ i. close_code (sound_alike b d h i) lane (admits_alike b d h lane caller i)
 
     tells_benches : (c : Call) → tells b c ≡ tells d c
     unfolding answer_to open_of turn_of take_of close_of answered
@@ -202,9 +202,9 @@ module _ (g : ℕ) where
     tells_benches (closing lane caller) = λ i. if_done (code_benches (closing lane caller) i) 0 0
 
     -- the buffer after a take with g's number
-    own-buffer : (lane : ℕ) (out : List ℕ) → taken_bytes b lane g out ≡ taken_bytes d lane g out
+    own_buffer : (lane : ℕ) (out : List ℕ) → taken_bytes b lane g out ≡ taken_bytes d lane g out
     unfolding taken_bytes answer_to
-    own-buffer lane out =
+    own_buffer lane out =
         let e : (take_of b lane g out).code ≡ (take_of d lane g out).code = code_benches (taking lane g out) in
         elim (ℕ_discrete (take_of b lane g out).code 0) [
           | yes z ↦ if_done_lem _ _ out z
@@ -219,7 +219,7 @@ module _ (g : ℕ) where
     bytes_benches (taking lane caller out) = go (eqb caller g) (λ t. eqb-true caller g t)
       where
         go : (t : Bool) → (t ≡ true → caller ≡ g) → cond t (taken_bytes b lane caller out) [] ≡ cond t (taken_bytes d lane caller out) []
-        go true e = rw (e refl) (own-buffer lane out)
+        go true e = rw (e refl) (own_buffer lane out)
         go false e = refl
     bytes_benches (closing lane caller) = refl
 

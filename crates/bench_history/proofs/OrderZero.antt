@@ -12,8 +12,8 @@ use Rattle.published.specs.Bytes.{from_bytes, to_bytes, Bytes}
 use Rattle.published.specs.Seen.{seen}
 use Rattle.published.specs.Rounds.{Pair}
 use Rattle.published.specs.Gift128.{pairs_of, rounds128, unrounds128, rounds_all, encrypted, decrypted}
-use Rattle.published.proofs.Gift128.{block-lt, rounds-all-lt}
-use Rattle.published.proofs.Seen.{inward, outward, permuted, order-1-by-0}
+use Rattle.published.proofs.Gift128.{block-lt, rounds_all_lt}
+use Rattle.published.proofs.Seen.{inward, outward, permuted, order_1_by_0}
 use Rattle.primitives.specs.declared.State.{State}
 use Rattle.primitives.specs.Packed.{block_of, state_of}
 use Rattle.packing.specs.Packing.{no_words, packed, unpacked}
@@ -23,18 +23,18 @@ use Rattle.lane.specs.Record.{idle, running}
 use Rattle.lane_turns.specs.Turns.{opened, yielded}
 use Rattle.bench_orders.specs.Orders.{lane_count, open_code}
 use Rattle.bench_history.specs.Promises.{reached, answer}
-use Rattle.bench_history.proofs.Quintuples.{reached-from_the_start}
+use Rattle.bench_history.proofs.Quintuples.{reached_from_the_start}
 
-pub packed-0 : (bs : List ℕ) → packed 0 bs ≡ cond (eqb (length bs) 16) (state_of (from_bytes bs)) no_words
+pub packed_0 : (bs : List ℕ) → packed 0 bs ≡ cond (eqb (length bs) 16) (state_of (from_bytes bs)) no_words
 unfolding packed
-packed-0 bs = refl
+packed_0 bs = refl
 
-pub unpacked-0 : (s : State) (out : List ℕ) → unpacked 0 s out ≡ cond (eqb (length out) 16) (to_bytes 16 (block_of s)) out
+pub unpacked_0 : (s : State) (out : List ℕ) → unpacked 0 s out ≡ cond (eqb (length out) 16) (to_bytes 16 (block_of s)) out
 unfolding unpacked
-unpacked-0 s out = refl
+unpacked_0 s out = refl
 
 -- 10, 5, 6, 11, 9, 1, 2
-pub open_number-0 : (sound : Bool) (lane phase owner direction key block : ℕ)
+pub open_number_0 : (sound : Bool) (lane phase owner direction key block : ℕ)
     → open_code sound lane phase owner direction 0 key block
     ≡ unless sound BAD_BENCH
     (unless (ltb lane lane_count) BAD_LANE
@@ -45,9 +45,9 @@ pub open_number-0 : (sound : Bool) (lane phase owner direction key block : ℕ)
     (unless (eqb block 16) BAD_BLOCK_LENGTH
     DONE))))))
 unfolding open_code
-open_number-0 sound lane phase owner direction key block = refl
+open_number_0 sound lane phase owner direction key block = refl
 
-pub opened-0 : (owner direction : ℕ) (key block : List ℕ)
+pub opened_0 : (owner direction : ℕ) (key block : List ℕ)
     → opened owner direction 0 key block
     ≡ record {
       phase = running;
@@ -59,36 +59,36 @@ pub opened-0 : (owner direction : ℕ) (key block : List ℕ)
       state = cond (eqb (length block) 16) (state_of (from_bytes block)) no_words;
     }
 unfolding opened packed
-opened-0 owner direction key block = refl
+opened_0 owner direction key block = refl
 
-pub yielded-0 : (l : Lane) (out : List ℕ) → l.order ≡ 0 → yielded l out ≡ cond (eqb (length out) 16) (to_bytes 16 (block_of l.state)) out
+pub yielded_0 : (l : Lane) (out : List ℕ) → l.order ≡ 0 → yielded l out ≡ cond (eqb (length out) 16) (to_bytes 16 (block_of l.state)) out
 unfolding yielded unpacked
-yielded-0 l out e = ap (λ (o : ℕ). unpacked o l.state out) e
+yielded_0 l out e = ap (λ (o : ℕ). unpacked o l.state out) e
 
-pub reached-0 : (owner direction : ℕ) (key block : List ℕ) → length key ≡ 16 → length block ≡ 16 → Bytes block → (t : ℕ) → t ≤ 8
+pub reached_0 : (owner direction : ℕ) (key block : List ℕ) → length key ≡ 16 → length block ≡ 16 → Bytes block → (t : ℕ) → t ≤ 8
     → reached direction (pairs_of key) 0 t (block_of (opened owner direction 0 key block).state)
     ≡ cond (eqb direction 0)
     (rounds128 (take (5 * t) (pairs_of key)) 0 (from_bytes block))
     (unrounds128 (drop (40 - 5 * t) (pairs_of key)) (40 - 5 * t) (from_bytes block))
-reached-0 owner direction key block k b h = reached-from_the_start owner direction 0 key block (block-lt block b h) refl k b
+reached_0 owner direction key block k b h = reached_from_the_start owner direction 0 key block (block-lt block b h) refl k b
 
-pub answer-0 : (direction : ℕ) (key block : List ℕ) → answer direction 0 key block ≡ cond (eqb direction 0) (encrypted key block) (decrypted key block)
+pub answer_0 : (direction : ℕ) (key block : List ℕ) → answer direction 0 key block ≡ cond (eqb direction 0) (encrypted key block) (decrypted key block)
 unfolding answer encrypted decrypted
-answer-0 direction key block = refl
+answer_0 direction key block = refl
 
 -- ---- order 1 by order 0: the block permuted by one fixed permutation of bits, and what comes of it permuted back
 
 module _ (block : List ℕ) (len : length block ≡ 16) (h : Bytes block) where
   -- by any pairs: a key's, and those that eighty words stand for
-  pub by-pairs-1 : (back : Bool) (ps : List Pair) → seen 1 (rounds_all back ps) block ≡ permuted outward (seen 0 (rounds_all back ps) (permuted inward block))
-  by-pairs-1 back ps = order-1-by-0 (rounds_all back ps) (rounds-all-lt back ps) block len h
+  pub by_pairs_1 : (back : Bool) (ps : List Pair) → seen 1 (rounds_all back ps) block ≡ permuted outward (seen 0 (rounds_all back ps) (permuted inward block))
+  by_pairs_1 back ps = order_1_by_0 (rounds_all back ps) (rounds_all_lt back ps) block len h
 
-  pub answer-1 : (direction : ℕ) (key : List ℕ) → answer direction 1 key block ≡ permuted outward (answer direction 0 key (permuted inward block))
+  pub answer_1 : (direction : ℕ) (key : List ℕ) → answer direction 1 key block ≡ permuted outward (answer direction 0 key (permuted inward block))
   unfolding answer
-  answer-1 direction key = go (eqb direction 0)
+  answer_1 direction key = go (eqb direction 0)
     where
       go : (t : Bool) → cond t (seen 1 (rounds_all false (pairs_of key)) block) (seen 1 (rounds_all true (pairs_of key)) block)
           ≡ permuted outward
           (cond t (seen 0 (rounds_all false (pairs_of key)) (permuted inward block)) (seen 0 (rounds_all true (pairs_of key)) (permuted inward block)))
-      go true = by-pairs-1 false (pairs_of key)
-      go false = by-pairs-1 true (pairs_of key)
+      go true = by_pairs_1 false (pairs_of key)
+      go false = by_pairs_1 true (pairs_of key)

@@ -25,14 +25,14 @@ use Rattle.primitives.proofs.Blocks.{block_of_lt, block_of_state_of}
 use Rattle.round_words.specs.Arranged.{pairs_from}
 use Rattle.round_words.proofs.Keeping.{forty, five_pairs}
 use Rattle.quintuple.specs.Quintuple.{quintupled, unquintupled}
-use Rattle.quintuple.proofs.Five.{all-good}
+use Rattle.quintuple.proofs.Five.{all_good}
 use Rattle.key_schedule.specs.Expand.{expanded}
-use Rattle.key_schedule.proofs.Expanded.{pairs-of-expanded, length-expanded}
+use Rattle.key_schedule.proofs.Expanded.{pairs_of_expanded, length-expanded}
 use Rattle.lane.specs.declared.Lane.{Lane}
 use Rattle.lane.specs.Record.{idle, running, finished, sound_count, sound_lane}
 use Rattle.lane.proofs.Records.{tidy}
 use Rattle.lane_turns.specs.Turns.{opened, advanced, served}
-use Rattle.lane_turns.proofs.Serving.{opened-on}
+use Rattle.lane_turns.proofs.Serving.{opened_on}
 use Rattle.bench_history.specs.History.{served_times}
 use Rattle.bench_history.specs.Promises.{reached, onward, answer}
 
@@ -54,13 +54,13 @@ module _ (ws : List ℕ) (eighty : length ws ≡ 80) where
   done_at : (s : State) (t : ℕ) → t < 8 → quintupled s (drop (2 * (5 * t)) ws) (5 * t) ≡ state_of (rounds128 (take 5 (drop (5 * t) ps)) (5 * t) (block_of s))
   unfolding quintupled
   done_at s t h =
-      cond-true _ _ _ (all-good (drop (2 * (5 * t)) ws) (5 * t) (rw length-drop (omega arith)) (omega arith) (omega arith))
+      cond-true _ _ _ (all_good (drop (2 * (5 * t)) ws) (5 * t) (rw length-drop (omega arith)) (omega arith) (omega arith))
       ∙ ap (λ (qs : List Pair). state_of (rounds128 qs (5 * t) (block_of s))) (five_pairs t ws)
 
-  undone-at : (s : State) (t : ℕ) → t < 8 → unquintupled s (drop (2 * (5 * t)) ws) (5 * t) ≡ state_of (unrounds128 (take 5 (drop (5 * t) ps)) (5 * t) (block_of s))
+  undone_at : (s : State) (t : ℕ) → t < 8 → unquintupled s (drop (2 * (5 * t)) ws) (5 * t) ≡ state_of (unrounds128 (take 5 (drop (5 * t) ps)) (5 * t) (block_of s))
   unfolding unquintupled
-  undone-at s t h =
-      cond-true _ _ _ (all-good (drop (2 * (5 * t)) ws) (5 * t) (rw length-drop (omega arith)) (omega arith) (omega arith))
+  undone_at s t h =
+      cond-true _ _ _ (all_good (drop (2 * (5 * t)) ws) (5 * t) (rw length-drop (omega arith)) (omega arith) (omega arith))
       ∙ ap (λ (qs : List Pair). state_of (unrounds128 qs (5 * t) (block_of s))) (five_pairs t ws)
 
   module _ (c t x : ℕ) (h : c + t < 8) (x_lt : x < 2 ^ 128) where
@@ -98,7 +98,7 @@ module _ (ws : List ℕ) (eighty : length ws ≡ 80) where
             let qs : List Pair = drop (5 * m) ps in
             let y : ℕ = unrounds128 (take (5 * t) (drop (5 * m + 5) ps)) (5 * m + 5) x in
             let here : 5 * m + 5 ≡ 5 * m + length (take 5 qs) = rw (length-take, length-drop) (omega (arith, all)) in
-            undone-at (state_of y) m l
+            undone_at (state_of y) m l
             ∙ ap state_of
             (ap (unrounds128 (take 5 qs) (5 * m)) (block_of_state_of y (unrounds-lt 128 1 width128 (take (5 * t) (drop (5 * m + 5) ps)) (5 * m + 5) x x_lt))
             ∙ ap₂ (λ (rs : List Pair) (j : ℕ). unrounds128 (take 5 qs) (5 * m) (unrounds128 (take (5 * t) rs) j x)) (sym (drop-drop 5 (5 * m) ps)) here
@@ -165,9 +165,9 @@ module _ (l : Lane) (eighty : length l.words ≡ 80) where
     turns_are_rounds (suc t) h = ap served (turns_are_rounds t (omega arith)) ∙ serve t (omega arith)
 
 -- a busy sound record has its phase as its count has it
-pub phase-by-count : (l : Lane) → sound_lane l ≡ true → l.phase ≢ idle → l.phase ≡ cond (leb 8 l.count) finished running
+pub phase_by_count : (l : Lane) → sound_lane l ≡ true → l.phase ≢ idle → l.phase ≡ cond (leb 8 l.count) finished running
 unfolding sound_count
-phase-by-count l s busy = go l.phase (tidy l s busy).counted
+phase_by_count l s busy = go l.phase (tidy l s busy).counted
   where
     go : (p : ℕ) → sound_count p l.count ≡ true → p ≡ cond (leb 8 l.count) finished running
     go zero e = absurd (false≢true e)
@@ -177,45 +177,45 @@ phase-by-count l s busy = go l.phase (tidy l s busy).counted
 
 -- ---- a lane opened by a key
 
-all-pairs : (key : List ℕ) → length (pairs_of key) ≡ 40
+all_pairs : (key : List ℕ) → length (pairs_of key) ≡ 40
 unfolding pairs_of
-all-pairs key = length_pairs pair_of 40 _
+all_pairs key = length_pairs pair_of 40 _
 
 module _ (owner direction order : ℕ) (key block : List ℕ) (x_lt : read_in order block < 2 ^ 128) (o : is_order order ≡ true) (k : length key ≡ 16) (b : length block ≡ 16) where
   abbrev begun : Lane
   begun = record { phase = running; direction = direction; owner = owner; count = 0; order = order; words = expanded key; state = state_of (read_in order block) }
 
-  is-begun : opened owner direction order key block ≡ begun
-  is-begun = opened-on owner direction order key block o k b
+  is_begun : opened owner direction order key block ≡ begun
+  is_begun = opened_on owner direction order key block o k b
 
   pub reach : (t : ℕ) → t ≤ 8 → served_times t (opened owner direction order key block) ≡ onward (pairs_of key) t (opened owner direction order key block)
   reach t h =
-      ap (served_times t) is-begun
+      ap (served_times t) is_begun
       ∙ turns_are_rounds begun (length-expanded key) refl (ap state_of (block_of_state_of (read_in order block) x_lt)) t (omega arith)
-      ∙ ap₂ (λ (ps : List Pair) (l : Lane). onward ps t l) (pairs-of-expanded key) (sym is-begun)
+      ∙ ap₂ (λ (ps : List Pair) (l : Lane). onward ps t l) (pairs_of_expanded key) (sym is_begun)
 
   -- from the first turn on: 5t rounds done, or the rounds 40 down to 41 − 5t undone, on the block that the lane's order sees
-  pub reached-from_the_start : (t : ℕ) → t ≤ 8 → reached direction (pairs_of key) 0 t (block_of (opened owner direction order key block).state)
+  pub reached_from_the_start : (t : ℕ) → t ≤ 8 → reached direction (pairs_of key) 0 t (block_of (opened owner direction order key block).state)
       ≡ cond (eqb direction 0) (rounds128 (take (5 * t) (pairs_of key)) 0 (read_in order block)) (unrounds128 (drop (40 - 5 * t) (pairs_of key)) (40 - 5 * t) (read_in order block))
   unfolding reached
-  reached-from_the_start t h =
+  reached_from_the_start t h =
       let x : ℕ = read_in order block in
       let qs : List Pair = drop (40 - 5 * t) (pairs_of key) in
-      ap (λ (y : ℕ). reached direction (pairs_of key) 0 t y) (ap (λ (l : Lane). block_of l.state) is-begun ∙ block_of_state_of x x_lt)
+      ap (λ (y : ℕ). reached direction (pairs_of key) 0 t y) (ap (λ (l : Lane). block_of l.state) is_begun ∙ block_of_state_of x x_lt)
       ∙ ap (λ (i : ℕ). cond (eqb direction 0) (rounds128 (take (5 * t) (pairs_of key)) 0 x) (unrounds128 (take (5 * t) (drop (40 - 5 * i) (pairs_of key))) (40 - 5 * i) x)) (zero-add t)
       ∙ ap (λ (rs : List Pair). cond (eqb direction 0) (rounds128 (take (5 * t) (pairs_of key)) 0 x) (unrounds128 rs (40 - 5 * t) x)) (take_all (5 * t) qs (rest t h))
     where
       rest : (t : ℕ) → t ≤ 8 → length (drop (40 - 5 * t) (pairs_of key)) ≤ 5 * t
-      rest t h = rw (length-drop, all-pairs key) (omega arith)
+      rest t h = rw (length-drop, all_pairs key) (omega arith)
 
   pub yields : write_in order (block_of (onward (pairs_of key) 8 (opened owner direction order key block)).state) ≡ answer direction order key block
   unfolding onward answer opened
   yields =
       let fresh : Lane = opened owner direction order key block in
-      ap (write_in order) (block_of_state_of _ (reached-lt direction (pairs_of key) 0 8 (block_of fresh.state) (block_of_lt fresh.state)) ∙ reached-from_the_start 8 (omega arith)) ∙ go (eqb direction 0)
+      ap (write_in order) (block_of_state_of _ (reached-lt direction (pairs_of key) 0 8 (block_of fresh.state) (block_of_lt fresh.state)) ∙ reached_from_the_start 8 (omega arith)) ∙ go (eqb direction 0)
     where
       whole : take 40 (pairs_of key) ≡ pairs_of key
-      whole = take_all 40 (pairs_of key) (le_of_eq (all-pairs key))
+      whole = take_all 40 (pairs_of key) (le_of_eq (all_pairs key))
 
       go : (f : Bool) → write_in order (cond f (rounds128 (take 40 (pairs_of key)) 0 (read_in order block)) (unrounds128 (pairs_of key) 0 (read_in order block)))
           ≡ cond f (seen order (rounds128 (pairs_of key) 0) block) (seen order (unrounds128 (pairs_of key) 0) block)

@@ -20,39 +20,39 @@ use Rattle.bench_turns.specs.declared.Bench.{Bench}
 use Rattle.bench_turns.specs.Turning.{lane_at, chosen, any_runs, turned, turned_by, served_by}
 use Rattle.bench_turns.proofs.Soundness.{Sound, set_here, set_there}
 use Rattle.bench_turns.proofs.Seeking.{chosen-lt}
-use Rattle.bench_turns.proofs.Made.{turned-is, chosen-phase, chosen-sound, by-turns}
+use Rattle.bench_turns.proofs.Made.{turned_is, chosen-phase, chosen-sound, by_turns}
 use Rattle.bench_history.specs.History.{Call, leaves, serves, run, log, times, releases, never, served_times}
 use Rattle.bench_history.specs.Promises.{BusyFor}
 use Rattle.bench_history.proofs.Touched.{sound-leaves, Touch, touch, left_by, same, entered, left, served as serving}
 
 -- ---- counting in a log
 
-pub times-own : (n i : ℕ) (is : List ℕ) → i ≡ n → times n (i ∷ is) ≡ suc (times n is)
+pub times_own : (n i : ℕ) (is : List ℕ) → i ≡ n → times n (i ∷ is) ≡ suc (times n is)
 unfolding times
-times-own n i is e = cond-true (eqb i n) _ _ (eq-eqb i n e)
+times_own n i is e = cond-true (eqb i n) _ _ (eq-eqb i n e)
 
-pub times-other : (n i : ℕ) (is : List ℕ) → i ≢ n → times n (i ∷ is) ≡ times n is
+pub times_other : (n i : ℕ) (is : List ℕ) → i ≢ n → times n (i ∷ is) ≡ times n is
 unfolding times
-times-other n i is ne = cond-false (eqb i n) _ _ (ne_eqb i n ne)
+times_other n i is ne = cond-false (eqb i n) _ _ (ne_eqb i n ne)
 
 pub times-append : (n : ℕ) (is js : List ℕ) → times n (is ++ js) ≡ times n is + times n js
 unfolding times
 times-append n [] js = sym (zero-add (times n js))
 times-append n (i ∷ is) js =
     elim (ℕ_discrete i n) [
-      | yes e ↦ omega (arith, times-own n i (is ++ js) e, times-own n i is e, times-append n is js)
-      | no ne ↦ omega (arith, times-other n i (is ++ js) ne, times-other n i is ne, times-append n is js)
+      | yes e ↦ omega (arith, times_own n i (is ++ js) e, times_own n i is e, times-append n is js)
+      | no ne ↦ omega (arith, times_other n i (is ++ js) ne, times_other n i is ne, times-append n is js)
     ]
 
 -- ---- one turn, seen from lane n
 
 module _ (b : Bench) (any : any_runs b ≡ true) (n : ℕ) where
-  pub turned-own : Sound b → chosen b ≡ n → lane_at (turned b).lanes n ≡ served (lane_at b.lanes n)
-  turned-own s e =
-      rw (turned-is b any, ← e) (set_here b.lanes (chosen b) (served (lane_at b.lanes (chosen b))) (rw s.size (chosen-lt b any)))
+  pub turned_own : Sound b → chosen b ≡ n → lane_at (turned b).lanes n ≡ served (lane_at b.lanes n)
+  turned_own s e =
+      rw (turned_is b any, ← e) (set_here b.lanes (chosen b) (served (lane_at b.lanes (chosen b))) (rw s.size (chosen-lt b any)))
 
-  pub turned-other : chosen b ≢ n → lane_at (turned b).lanes n ≡ lane_at b.lanes n
-  turned-other ne = rw (turned-is b any) (set_there b.lanes (chosen b) (served (lane_at b.lanes (chosen b))) n (λ e. ne (sym e)))
+  pub turned_other : chosen b ≢ n → lane_at (turned b).lanes n ≡ lane_at b.lanes n
+  turned_other ne = rw (turned_is b any) (set_there b.lanes (chosen b) (served (lane_at b.lanes (chosen b))) n (λ e. ne (sym e)))
 
 -- ---- the record l after t turns of its own is m
 
@@ -66,9 +66,9 @@ stays : (l m : Lane) → m ≡ l → After l 0 m
 unfolding served_times
 stays l m e = record { is = e; counted = ap (λ (k : Lane). k.count) e ∙ sym (add-zero l.count); owner = ap (λ (k : Lane). k.owner) e; busy = λ ne p. ne (sym (ap (λ (k : Lane). k.phase) e) ∙ p) }
 
-one-turn : (l m : Lane) → sound_lane l ≡ true → l.phase ≡ running → m ≡ served l → After l 1 m
+one_turn : (l m : Lane) → sound_lane l ≡ true → l.phase ≡ running → m ≡ served l → After l 1 m
 unfolding served_times
-one-turn l m s r e =
+one_turn l m s r e =
     record {
       is = e;
       counted = ap (λ (k : Lane). k.count) e ∙ served-count l s r;
@@ -76,16 +76,16 @@ one-turn l m s r e =
       busy = λ ne p. served-busy l s r (sym (ap (λ (k : Lane). k.phase) e) ∙ p);
     }
 
-times-then : (t u : ℕ) (l : Lane) → served_times u (served_times t l) ≡ served_times (t + u) l
+times_then : (t u : ℕ) (l : Lane) → served_times u (served_times t l) ≡ served_times (t + u) l
 unfolding served_times
-times-then t zero l = ap (λ (k : ℕ). served_times k l) (sym (add-zero t))
-times-then t (suc u) l = ap served (times-then t u l) ∙ ap (λ (k : ℕ). served_times k l) (sym (add-suc t u))
+times_then t zero l = ap (λ (k : ℕ). served_times k l) (sym (add-zero t))
+times_then t (suc u) l = ap served (times_then t u l) ∙ ap (λ (k : ℕ). served_times k l) (sym (add-suc t u))
 
 -- t turns and then u
 then : (l m r : Lane) (t u v : ℕ) → v ≡ t + u → After l t m → After m u r → After l v r
 then l m r t u v e p q =
     record {
-      is = q.is ∙ ap (served_times u) p.is ∙ times-then t u l ∙ ap (λ (k : ℕ). served_times k l) (sym e);
+      is = q.is ∙ ap (served_times u) p.is ∙ times_then t u l ∙ ap (λ (k : ℕ). served_times k l) (sym e);
       counted = omega (arith, e, p.counted, q.counted);
       owner = q.owner ∙ p.owner;
       busy = λ ne. q.busy (p.busy ne);
@@ -93,10 +93,10 @@ then l m r t u v e p q =
 
 -- ---- over the turns of one call
 
-pub stand-turns : (n k : ℕ) (b : Bench) → Sound b → After (lane_at b.lanes n) (times n (served_by k b)) (lane_at (turned_by k b).lanes n)
+pub stand_turns : (n k : ℕ) (b : Bench) → Sound b → After (lane_at b.lanes n) (times n (served_by k b)) (lane_at (turned_by k b).lanes n)
 unfolding times
-stand-turns n =
-    by-turns (λ k b is e. After (lane_at b.lanes n) (times n is) (lane_at e.lanes n)) (λ b. stays _ (lane_at b.lanes n) refl)
+stand_turns n =
+    by_turns (λ k b is e. After (lane_at b.lanes n) (times n is) (lane_at e.lanes n)) (λ b. stays _ (lane_at b.lanes n) refl)
     (λ k b s none. stays _ (lane_at b.lanes n) refl) more
   where
     more : (k : ℕ) (b : Bench) (is : List ℕ) (e : Bench) → Sound b → any_runs b ≡ true → After (lane_at (turned b).lanes n) (times n is) (lane_at e.lanes n)
@@ -105,21 +105,21 @@ stand-turns n =
         let l : Lane = lane_at b.lanes n in
         let m : Lane = lane_at (turned b).lanes n in
         elim (ℕ_discrete (chosen b) n) [
-          | yes p ↦ then l m _ 1 (times n is) _ (times-own n (chosen b) is p ∙ sym (one-add (times n is)))
-              (one-turn l m (rw p at (chosen-sound b any s)) (rw p at (chosen-phase b any)) (turned-own b any n s p)) later
-          | no ne ↦ then l m _ 0 (times n is) _ (times-other n (chosen b) is ne ∙ sym (zero-add (times n is))) (stays l m (turned-other b any n ne)) later
+          | yes p ↦ then l m _ 1 (times n is) _ (times_own n (chosen b) is p ∙ sym (one-add (times n is)))
+              (one_turn l m (rw p at (chosen-sound b any s)) (rw p at (chosen-phase b any)) (turned_own b any n s p)) later
+          | no ne ↦ then l m _ 0 (times n is) _ (times_other n (chosen b) is ne ∙ sym (zero-add (times n is))) (stays l m (turned_other b any n ne)) later
         ]
 
 -- turns make no idle lane busy
 pub turns_wake_none : (n k : ℕ) (b : Bench) → Sound b → (lane_at (turned_by k b).lanes n).phase ≢ idle → (lane_at b.lanes n).phase ≢ idle
-turns_wake_none n = by-turns (λ k b is e. (lane_at e.lanes n).phase ≢ idle → (lane_at b.lanes n).phase ≢ idle) (λ b h. h) (λ k b s none h. h) more
+turns_wake_none n = by_turns (λ k b is e. (lane_at e.lanes n).phase ≢ idle → (lane_at b.lanes n).phase ≢ idle) (λ b h. h) (λ k b s none h. h) more
   where
     more : (k : ℕ) (b : Bench) (is : List ℕ) (e : Bench) → Sound b → any_runs b ≡ true → ((lane_at e.lanes n).phase ≢ idle → (lane_at (turned b).lanes n).phase ≢ idle)
         → (lane_at e.lanes n).phase ≢ idle → (lane_at b.lanes n).phase ≢ idle
     more k b is e s any later h z =
         elim (ℕ_discrete (chosen b) n) [
           | yes p ↦ eqb-false 1 0 refl (sym (chosen-phase b any) ∙ ap (λ (i : ℕ). (lane_at b.lanes i).phase) p ∙ z)
-          | no ne ↦ later h (ap (λ (l : Lane). l.phase) (turned-other b any n ne) ∙ z)
+          | no ne ↦ later h (ap (λ (l : Lane). l.phase) (turned_other b any n ne) ∙ z)
         ]
 
 -- ---- over any calls
@@ -154,4 +154,4 @@ stand n w (c ∷ cs) b s for kept =
     go (left h) more =
         absurd
         (false≢true (sym (not-true (releases n w b c) (both (not (releases n w b c)) _ kept).0) ∙ ap (λ (u : ℕ). releases n u b c) (sym (left_by n b c w for h)) ∙ h.released))
-    go (serving asked e h k) more = first (times n (served_by asked b)) (ap (times n) h) (rw e (stand-turns n asked b s)) more
+    go (serving asked e h k) more = first (times n (served_by asked b)) (ap (times n) h) (rw e (stand_turns n asked b s)) more

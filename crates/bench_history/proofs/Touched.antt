@@ -52,13 +52,13 @@ sound-leaves b c s =
 -- ---- one lane of a bench with another record in some lane
 
 module _ (b : Bench) (i : ℕ) (l : Lane) where
-  pub put-here : Sound b → i < lane_count → lane_at (put b i l).lanes i ≡ l
+  pub put_here : Sound b → i < lane_count → lane_at (put b i l).lanes i ≡ l
   unfolding put
-  put-here s h = set_here b.lanes i l (rw s.size h)
+  put_here s h = set_here b.lanes i l (rw s.size h)
 
-  pub put-there : (n : ℕ) → n ≢ i → lane_at (put b i l).lanes n ≡ lane_at b.lanes n
+  pub put_there : (n : ℕ) → n ≢ i → lane_at (put b i l).lanes n ≡ lane_at b.lanes n
   unfolding put
-  put-there n ne = set_there b.lanes i l n ne
+  put_there n ne = set_there b.lanes i l n ne
 
   pub put_last : (put b i l).last ≡ b.last
   unfolding put
@@ -100,7 +100,7 @@ pub data Touch (n : ℕ) (b : Bench) (c : Call) : Type 0 where
 elsewhere : (n : ℕ) (b : Bench) (c : Call) (i : ℕ) (l : Lane) → leaves b c ≡ put b i l → serves b c ≡ [] → ((w : ℕ) → releases n w b c ≡ false) → n ≢ i → Touch n b c
 elsewhere n b c i l e z k ne =
     same (record {
-      lane = ap (λ (d : Bench). lane_at d.lanes n) e ∙ put-there b i l n ne;
+      lane = ap (λ (d : Bench). lane_at d.lanes n) e ∙ put_there b i l n ne;
       last = ap (λ (d : Bench). d.last) e ∙ put_last b i l;
       none = z;
       kept = k;
@@ -114,12 +114,12 @@ refused-keeps n w b (turning asked) ne = refl
 refused-keeps n w b (taking lane caller out) ne = rw (ne_eqb (take_of b lane caller out).code 0 ne) (and-false (eqb lane n && eqb caller w))
 refused-keeps n w b (closing lane caller) ne = rw (ne_eqb (close_of b lane caller).code 0 ne) (and-false (eqb lane n && eqb caller w))
 
-other-keeps : (n lane : ℕ) (s t : Bool) → n ≢ lane → eqb lane n && s && t ≡ false
-other-keeps n lane s t ne = rw (ne_eqb lane n (λ e. ne (sym e)))
+other_keeps : (n lane : ℕ) (s t : Bool) → n ≢ lane → eqb lane n && s && t ≡ false
+other_keeps n lane s t ne = rw (ne_eqb lane n (λ e. ne (sym e)))
 
 -- what is done in lane n with a number releases it with that number
-released-by : (n lane caller r : ℕ) → n ≡ lane → r ≡ 0 → eqb lane n && eqb caller caller && eqb r 0 ≡ true
-released-by n lane caller r p e = together _ (eqb r 0) (together (eqb lane n) _ (eq-eqb lane n (sym p)) (eq-eqb caller caller refl)) (eq-eqb r 0 e)
+released_by : (n lane caller r : ℕ) → n ≡ lane → r ≡ 0 → eqb lane n && eqb caller caller && eqb r 0 ≡ true
+released_by n lane caller r p e = together _ (eqb r 0) (together (eqb lane n) _ (eq-eqb lane n (sym p)) (eq-eqb caller caller refl)) (eq-eqb r 0 e)
 
 touch-done : (n : ℕ) (b : Bench) (c : Call) → code_of b c ≡ 0 → Touch n b c
 unfolding releases closes answer_to
@@ -136,11 +136,11 @@ touch-done n b (taking lane caller out) e =
       | yes p ↦ left (record {
         caller = caller;
         admitted = rw p o.admitted;
-        released = released-by n lane caller _ p e;
+        released = released_by n lane caller _ p e;
         how = inr (rw p o.was_finished);
-        wiped = rw (o.left, p) (put-here b lane idle_lane o.sound o.lane_lt);
+        wiped = rw (o.left, p) (put_here b lane idle_lane o.sound o.lane_lt);
       })
-      | no ne ↦ elsewhere n b (taking lane caller out) lane idle_lane o.left o.none (λ w. other-keeps n lane _ _ ne) ne
+      | no ne ↦ elsewhere n b (taking lane caller out) lane idle_lane o.left o.none (λ w. other_keeps n lane _ _ ne) ne
     ]
 touch-done n b (closing lane caller) e =
     let o = closings b lane caller e in
@@ -148,11 +148,11 @@ touch-done n b (closing lane caller) e =
       | yes p ↦ left (record {
         caller = caller;
         admitted = rw p o.admitted;
-        released = released-by n lane caller _ p e;
-        how = inl (released-by n lane caller _ p e);
-        wiped = rw (o.left, p) (put-here b lane idle_lane o.sound o.lane_lt);
+        released = released_by n lane caller _ p e;
+        how = inl (released_by n lane caller _ p e);
+        wiped = rw (o.left, p) (put_here b lane idle_lane o.sound o.lane_lt);
       })
-      | no ne ↦ elsewhere n b (closing lane caller) lane idle_lane o.left o.none (λ w. other-keeps n lane _ _ ne) ne
+      | no ne ↦ elsewhere n b (closing lane caller) lane idle_lane o.left o.none (λ w. other_keeps n lane _ _ ne) ne
     ]
 
 pub touch : (n : ℕ) (b : Bench) (c : Call) → Touch n b c

@@ -19,12 +19,12 @@ use Rattle.bench_orders.specs.Orders.{lane_count}
 use Rattle.bench_turns.specs.declared.Bench.{Bench}
 use Rattle.bench_turns.specs.Turning.{lane_at, runs, after, chosen, any_runs, turned, turned_by, served_by}
 use Rattle.bench_turns.proofs.Soundness.{Sound}
-use Rattle.bench_turns.proofs.Seeking.{some_lane, phase-runs, steps, steps-lt, steps-after, after-lt, Found, chosen-near, runs_any}
-use Rattle.bench_turns.proofs.Made.{turned-is, sound-turned}
+use Rattle.bench_turns.proofs.Seeking.{some_lane, phase-runs, steps, steps-lt, steps_after, after_lt, Found, chosen-near, runs_any}
+use Rattle.bench_turns.proofs.Made.{turned_is, sound-turned}
 use Rattle.bench_history.specs.History.{Call, leaves, serves, log, times, closes, never}
 use Rattle.bench_history.specs.Promises.{BusyFor}
 use Rattle.bench_history.proofs.Touched.{sound-leaves, Touch, touch, left_by, same, entered, left, served as serving}
-use Rattle.bench_history.proofs.Standing.{times-own, times-other, turned-own, turned-other}
+use Rattle.bench_history.proofs.Standing.{times_own, times_other, turned_own, turned_other}
 
 -- lane n is guest w's, runs, lacks r + 1 turns, and is to have them within the next k + 1 turns made
 record Due (n w : ℕ) (b : Bench) (r k : ℕ) : Type 0 where
@@ -61,58 +61,58 @@ module _ (n w : ℕ) where
     found : Found b.lanes n (after b.last) (chosen b)
     found = chosen-near b n d.lane runs_here
 
-    last-is : (turned b).last ≡ chosen b
-    last-is = ap (λ (e : Bench). e.last) (turned-is b due_any)
+    last_is : (turned b).last ≡ chosen b
+    last_is = ap (λ (e : Bench). e.last) (turned_is b due_any)
 
   due_own : (b : Bench) (r k : ℕ) → Due n w b (suc r) (suc k) → chosen b ≡ n → Due n w (turned b) r k
   due_own b r k d e =
       let any : any_runs b ≡ true = due_any b (suc r) (suc k) d in
       let l : Lane = lane_at b.lanes n in
       let fewer : lacks (lane_at (turned b).lanes n) ≡ suc r =
-      omega (arith, ap lacks (turned-own b any n d.sound e), served-lacks l (d.sound.each n d.lane) d.phase, d.lacking)
+      omega (arith, ap lacks (turned_own b any n d.sound e), served-lacks l (d.sound.each n d.lane) d.phase, d.lacking)
       in
       record {
         sound = sound-turned b d.sound;
         lane = d.lane;
-        owner = ap (λ (k : Lane). k.owner) (turned-own b any n d.sound e) ∙ served-owner l ∙ d.owner;
+        owner = ap (λ (k : Lane). k.owner) (turned_own b any n d.sound e) ∙ served-owner l ∙ d.owner;
         phase = lacking-runs (lane_at (turned b).lanes n) r fewer;
         lacking = fewer;
-        near = rw (last-is b (suc r) (suc k) d)
-            (omega (arith, d.near, mul-suc lane_count r, steps-lt (after (chosen b)) n (after-lt (chosen b)) d.lane));
+        near = rw (last_is b (suc r) (suc k) d)
+            (omega (arith, d.near, mul-suc lane_count r, steps-lt (after (chosen b)) n (after_lt (chosen b)) d.lane));
       }
 
   due_other : (b : Bench) (r k : ℕ) → Due n w b r (suc k) → chosen b ≢ n → Due n w (turned b) r k
   due_other b r k d ne =
       let any : any_runs b ≡ true = due_any b r (suc k) d in
-      let here : lane_at (turned b).lanes n ≡ lane_at b.lanes n = turned-other b any n ne in
+      let here : lane_at (turned b).lanes n ≡ lane_at b.lanes n = turned_other b any n ne in
       record {
         sound = sound-turned b d.sound;
         lane = d.lane;
         owner = ap (λ (l : Lane). l.owner) here ∙ d.owner;
         phase = ap (λ (l : Lane). l.phase) here ∙ d.phase;
         lacking = ap lacks here ∙ d.lacking;
-        near = rw (last-is b r (suc k) d)
-            (omega (arith, d.near, (found b r (suc k) d).near, steps-after (chosen b) n (found b r (suc k) d).lane d.lane ne));
+        near = rw (last_is b r (suc k) d)
+            (omega (arith, d.near, (found b r (suc k) d).near, steps_after (chosen b) n (found b r (suc k) d).lane d.lane ne));
       }
 
   module _ (b : Bench) (rest : List ℕ) (more : (r k : ℕ) → Due n w (turned b) r k → Has n r k rest) where
     own_turn : (r k : ℕ) → Due n w b r k → chosen b ≡ n → Has n r k (chosen b ∷ rest)
-    own_turn zero k d e h = rw (times-own n (chosen b) (take k rest) e) (omega arith)
+    own_turn zero k d e h = rw (times_own n (chosen b) (take k rest) e) (omega arith)
     own_turn (suc r) zero d e h = absurd (omega (arith, d.near, mul-suc lane_count r, some_lane))
     own_turn (suc r) (suc k) d e h =
-        rw (times-own n (chosen b) (take (suc k) rest) e) (omega (arith, more r k (due_own b r k d e) (omega arith)))
+        rw (times_own n (chosen b) (take (suc k) rest) e) (omega (arith, more r k (due_own b r k d e) (omega arith)))
 
-    other-turn : (r k : ℕ) → Due n w b r k → chosen b ≢ n → Has n r k (chosen b ∷ rest)
-    other-turn r zero d ne h =
-        absurd (omega (arith, d.near, (found b r zero d).near, steps-after (chosen b) n (found b r zero d).lane d.lane ne))
-    other-turn r (suc k) d ne h =
-        rw (times-other n (chosen b) (take (suc k) rest) ne) (more r k (due_other b r k d ne) (omega arith))
+    other_turn : (r k : ℕ) → Due n w b r k → chosen b ≢ n → Has n r k (chosen b ∷ rest)
+    other_turn r zero d ne h =
+        absurd (omega (arith, d.near, (found b r zero d).near, steps_after (chosen b) n (found b r zero d).lane d.lane ne))
+    other_turn r (suc k) d ne h =
+        rw (times_other n (chosen b) (take (suc k) rest) ne) (more r k (due_other b r k d ne) (omega arith))
 
     due_turn : (r k : ℕ) → Due n w b r k → Has n r k (chosen b ∷ rest)
     due_turn r k d =
         elim (ℕ_discrete (chosen b) n) [
           | yes e ↦ own_turn r k d e
-          | no ne ↦ other-turn r k d ne
+          | no ne ↦ other_turn r k d ne
         ]
 
   -- ---- the turns of one call, and then the rest of the log
@@ -170,6 +170,6 @@ module _ (n w : ℕ) where
             owner = whose;
             phase = lacking-runs (lane_at b.lanes n) r g;
             lacking = g;
-            near = omega (arith, f, mul-suc lane_count r, steps-lt (after b.last) n (after-lt b.last) hn);
+            near = omega (arith, f, mul-suc lane_count r, steps-lt (after b.last) n (after_lt b.last) hn);
           })
           l

@@ -15,8 +15,8 @@ use Rattle.key_schedule.proofs.Expanded.{length-expanded}
 use Rattle.gift128.specs.Calls.{new_words}
 use Rattle.lane.specs.declared.Lane.{Lane}
 use Rattle.lane.specs.Record.{idle, idle_lane}
-use Rattle.lane.proofs.Zero.{zero-is-idle}
-use Rattle.lane.proofs.Records.{idle-is}
+use Rattle.lane.proofs.Zero.{zero_is_idle}
+use Rattle.lane.proofs.Records.{idle_is}
 use Rattle.lane_turns.specs.Turns.{opened, served}
 use Rattle.bench_orders.specs.Orders.{lane_count}
 use Rattle.bench_turns.specs.declared.Bench.{Bench}
@@ -27,24 +27,24 @@ use Rattle.bench.specs.Calls.{fresh_bench, put, open_of}
 use Rattle.bench_history.specs.History.{Call, taking, closing, answer_to, code_of, leaves, run, enters, releases, never, served_times}
 use Rattle.bench_history.specs.Promises.{Held, Eighty, AllIdle, Released}
 use Rattle.bench_history.proofs.Accepted.{opens, takes, closings}
-use Rattle.bench_history.proofs.Touched.{sound-leaves, put-here, Entered, Touch, touch, same, entered, left, served as serving}
-use Rattle.bench_history.proofs.Standing.{stand-turns, turns_wake_none}
+use Rattle.bench_history.proofs.Touched.{sound-leaves, put_here, Entered, Touch, touch, same, entered, left, served as serving}
+use Rattle.bench_history.proofs.Standing.{stand_turns, turns_wake_none}
 use Rattle.bench_history.proofs.Demand.{ever_sound, run-append, held}
 
 -- ---- after an accepted take or close, the lane is the idle one
 
 pub taken-wiped : (b : Bench) (lane caller : ℕ) (out : List ℕ) → code_of b (taking lane caller out) ≡ 0 → lane_at (leaves b (taking lane caller out)).lanes lane ≡ idle_lane
-taken-wiped b lane caller out e = let o = takes b lane caller out e in rw o.left (put-here b lane idle_lane o.sound o.lane_lt)
+taken-wiped b lane caller out e = let o = takes b lane caller out e in rw o.left (put_here b lane idle_lane o.sound o.lane_lt)
 
 pub closed-wiped : (b : Bench) (lane caller : ℕ) → code_of b (closing lane caller) ≡ 0 → lane_at (leaves b (closing lane caller)).lanes lane ≡ idle_lane
-closed-wiped b lane caller e = let o = closings b lane caller e in rw o.left (put-here b lane idle_lane o.sound o.lane_lt)
+closed-wiped b lane caller e = let o = closings b lane caller e in rw o.left (put_here b lane idle_lane o.sound o.lane_lt)
 
 -- ---- a sound bench
 
 module _ (b : Bench) (ok : sound_bench b ≡ true) (eighty : Eighty b) where
   -- an idle lane is all zero
   pub idle-wiped : (n : ℕ) → n < lane_count → (lane_at b.lanes n).phase ≡ idle → lane_at b.lanes n ≡ idle_lane
-  idle-wiped n h e = zero-is-idle (lane_at b.lanes n) (eighty n h) (sym (idle-is (lane_at b.lanes n) e) ∙ (is_sound b ok).each n h)
+  idle-wiped n h e = zero_is_idle (lane_at b.lanes n) (eighty n h) (sym (idle_is (lane_at b.lanes n) e) ∙ (is_sound b ok).each n h)
 
   -- closing an idle lane changes nothing, whoever does it
   pub closing-idle : (n caller : ℕ) → (lane_at b.lanes n).phase ≡ idle → code_of b (closing n caller) ≡ 0 → leaves b (closing n caller) ≡ b
@@ -54,17 +54,17 @@ module _ (b : Bench) (ok : sound_bench b ≡ true) (eighty : Eighty b) where
       o.left ∙ ap (λ (ls : List Lane). record { lanes = ls; last = b.last }) (ap (set b.lanes n) (sym (idle-wiped n o.lane_lt e)) ∙ set-get_or b.lanes n _)
 
   -- with all lanes idle, it is the fresh bench but for the last served number
-  pub all-idle : AllIdle b → b.lanes ≡ fresh_bench.lanes
+  pub all_idle : AllIdle b → b.lanes ≡ fresh_bench.lanes
   unfolding fresh_bench
-  all-idle idles =
+  all_idle idles =
       let size : length b.lanes ≡ lane_count = (is_sound b ok).size in
       ext_get_or _ b.lanes (replicate lane_count idle_lane) (size ∙ sym (length-replicate lane_count idle_lane))
       (λ i h. let l : i < lane_count = rw size at h in idle-wiped i l (idles i l) ∙ sym (get_or-replicate lane_count i idle_lane _ l))
 
 -- ---- every history
 
-new-words : (key : List ℕ) → length (new_words key) ≡ 80
-new-words key =
+new_words_lem : (key : List ℕ) → length (new_words key) ≡ 80
+new_words_lem key =
     cond_either (λ (ws : List ℕ). length ws ≡ 80) (eqb (expand_code (length key) 80) 0) (expanded key) (replicate 80 0) (λ e. length-expanded key) (λ e. refl)
 
 served-words : (l : Lane) → (served l).words ≡ l.words
@@ -90,11 +90,11 @@ eighty-leaves b c s eighty n h = go (touch n b c)
         let o = opens b n t.owner t.direction t.order t.key t.block (rw t.call at t.accepted) in
         ap (λ (d : Call). length (lane_at (leaves b d).lanes n).words) t.call
         ∙ ap (λ (d : Bench). length (lane_at d.lanes n).words) o.left
-        ∙ ap (λ (l : Lane). length l.words) (put-here b n (opened t.owner t.direction t.order t.key t.block) o.sound o.lane_lt) ∙ new-words t.key
+        ∙ ap (λ (l : Lane). length l.words) (put_here b n (opened t.owner t.direction t.order t.key t.block) o.sound o.lane_lt) ∙ new_words_lem t.key
     go (left t) = ap (λ (l : Lane). length l.words) t.wiped
     go (serving asked e l z) =
         ap (λ (d : Bench). length (lane_at d.lanes n).words) e
-        ∙ ap (λ (m : Lane). length m.words) (stand-turns n asked b s).is ∙ ap length (times_words _ (lane_at b.lanes n)) ∙ eighty n h
+        ∙ ap (λ (m : Lane). length m.words) (stand_turns n asked b s).is ∙ ap length (times_words _ (lane_at b.lanes n)) ∙ eighty n h
 
 pub eighty-run : (cs : List Call) (b : Bench) → Sound b → Eighty b → Eighty (run b cs)
 unfolding run
@@ -158,8 +158,8 @@ released-wiped cs n h r =
     ∙ ap (λ (d : Bench). (lane_at d.lanes n).phase) (run-append r.before (r.by ∷ r.since) fresh_bench) ∙ e)
 
 -- once each lane was taken from or closed, the bench is fresh but for the last served number
-pub all-released : (cs : List Call) → ((n : ℕ) → n < lane_count → Released cs n) → (run fresh_bench cs).lanes ≡ fresh_bench.lanes
+pub all_released : (cs : List Call) → ((n : ℕ) → n < lane_count → Released cs n) → (run fresh_bench cs).lanes ≡ fresh_bench.lanes
 unfolding idle_lane
-all-released cs each =
-    all-idle (run fresh_bench cs) (ever_sound cs) (ever_eighty cs)
+all_released cs each =
+    all_idle (run fresh_bench cs) (ever_sound cs) (ever_eighty cs)
     (λ n h. ap (λ (l : Lane). l.phase) (released-wiped cs n h (each n h)))

@@ -11,7 +11,7 @@ use Rattle.lane_turns.proofs.Serving.{next}
 use Rattle.bench_orders.specs.Orders.{lane_count}
 use Rattle.bench_turns.specs.declared.Bench.{Bench}
 use Rattle.bench_turns.specs.Turning.{lane_at, chosen, turned}
-use Rattle.bench_turns.proofs.Made.{turned-at, turned_none, chosen_none}
+use Rattle.bench_turns.proofs.Made.{turned_at, turned_none, chosen_none}
 use Rattle.bench_lent.specs.Lent.{bench_of}
 use Rattle.bench_lent.specs.Inner.{renewed}
 
@@ -31,7 +31,7 @@ module _ (ys : List Lane) (last n : ℕ) (is : n ≡ chosen (bench_of ys last)) 
   pub turn_in : n < lane_count → {l m : Lane} {zs : List Lane} → l ≡ lane_at ys n → m ≡ served l → zs ≡ set ys n (renewed (lane_at ys n) m) → zs ≡ (turned b).lanes
   turn_in h {l} e f g =
       g ∙ ap (λ (k : Lane). set ys n (renewed (lane_at ys n) k)) (f ∙ ap served e) ∙ ap (set ys n) (served-renewed (lane_at ys n))
-      ∙ ap (λ (d : Bench). d.lanes) (turned-at b n (served (lane_at ys n)) is h refl)
+      ∙ ap (λ (d : Bench). d.lanes) (turned_at b n (served (lane_at ys n)) is h refl)
 
   pub no_turn : lane_count ≤ n → ys ≡ (turned b).lanes
   no_turn h = sym (ap (λ (d : Bench). d.lanes) (turned_none b (chosen_none b n is h)))

@@ -11,7 +11,7 @@ use Rattle.lane.specs.declared.Lane.{Lane}
 use Rattle.lane.specs.Record.{running}
 use Rattle.bench_orders.specs.Orders.{lane_count}
 use Rattle.bench_turns.specs.Turning.{lane_at, after, seek}
-use Rattle.bench_turns.proofs.Seeking.{some_lane, after-lt, seek-here, seek-on, seek-over}
+use Rattle.bench_turns.proofs.Seeking.{some_lane, after_lt, seek_here, seek_on, seek-over}
 use Rattle.bench_lent.specs.declared.Place.{Place}
 use Rattle.bench_lent.specs.Inner.{Passes}
 
@@ -36,26 +36,26 @@ module _ (ls : List Lane) (from : ℕ) where
         less true = more
         less false = omega arith
 
-    pub seeks-on : (r : Place) → Seeks p → Passes p (lane_at ls p.at) r → Seeks r
-    seeks-on r (going h some is) e =
+    pub seeks_on : (r : Place) → Seeks p → Passes p (lane_at ls p.at) r → Seeks r
+    seeks_on r (going h some is) e =
         elim (ℕ_discrete (lane_at ls p.at).phase running) [
           | yes runs ↦
               let t = eq-eqb _ running runs in
-              over (e.1 ∙ rw t) (e.0 ∙ rw t (sym (seek-here p.left ls p.at more runs) ∙ is))
+              over (e.1 ∙ rw t) (e.0 ∙ rw t (sym (seek_here p.left ls p.at more runs) ∙ is))
           | no ne ↦
               let t = ne_eqb _ running ne in
-              let on : seek (p.left - 1) ls (after p.at) ≡ seek lane_count ls from = sym (seek-on p.left ls p.at more ne) ∙ is in
+              let on : seek (p.left - 1) ls (after p.at) ≡ seek lane_count ls from = sym (seek_on p.left ls p.at more ne) ∙ is in
               elim (dec_lt 1 p.left) [
                 | yes two ↦
                     let to : r.at ≡ after p.at = e.0 ∙ rw (t, lt-ltb 1 _ two) in
                     let left : r.left ≡ p.left - 1 = e.1 ∙ rw t in
-                    going (rw to (after-lt p.at)) (omega (arith, left)) (rw (to, left) on)
+                    going (rw to (after_lt p.at)) (omega (arith, left)) (rw (to, left) on)
                 | no last ↦
                     let left : r.left ≡ p.left - 1 = e.1 ∙ rw t in
                     over (omega (arith, left)) (e.0 ∙ rw (t, le-ltb 1 p.left (omega arith)) (sym (seek-over (p.left - 1) ls (after p.at) (omega arith)) ∙ on))
               ]
         ]
-    seeks-on r (over none _) e = absurd (omega arith)
+    seeks_on r (over none _) e = absurd (omega arith)
 
   pub seeks-end : (p : Place) → p.left ≤ 0 → Seeks p → p.at ≡ seek lane_count ls from
   seeks-end p none (going _ some _) = absurd (omega arith)

@@ -16,8 +16,8 @@ use Rattle.bench_turns.specs.declared.Bench.{Bench}
 use Rattle.bench_turns.specs.Turning.{chosen, turned}
 use Rattle.bench_turns.specs.Sound.{sound_bench}
 use Rattle.bench_turns.proofs.Soundness.{is_sound}
-use Rattle.bench_turns.proofs.Made.{chosen_any, chosen_none, turned-is, turned_none}
-use Rattle.bench_turns.proofs.Rest.{Rest, Done, rest_all, rest-one, rest-none, rest_over}
+use Rattle.bench_turns.proofs.Made.{chosen_any, chosen_none, turned_is, turned_none}
+use Rattle.bench_turns.proofs.Rest.{Rest, Done, rest_all, rest_one, rest_none, rest_over}
 use Rattle.bench.specs.declared.Answer.{Answer}
 use Rattle.bench.specs.Calls.{turn_of}
 use Rattle.bench.proofs.Answered.{turn-refused, turn-done}
@@ -75,18 +75,18 @@ module _ (ls : List Lane) (last asked : ℕ) where
           | yes some ↦
               let here : Bench = bench_of zs r.told.last in
               let k = lt-ltb n lane_count some in
-              let is = turned-is here (chosen_any here n c some) in
+              let is = turned_is here (chosen_any here n c some) in
               let next : bench_of ws n ≡ turned here = λ i. record { lanes = t i; last = (c ∙ sym (ap (λ (d : Bench). d.last) is)) i } in
               let now : r'.told ≡ record { code = r.told.code; made = r.told.made + 1; last = n } = e.0 ∙ rw k in
               let left : r'.left ≡ r.left - 1 = e.1 ∙ rw k in
               going (rw now z) (rw now code) (ap length (t ∙ ap (λ (d : Bench). d.lanes) is) ∙ length-set zs _ _ ∙ size) (rw (now, left) (omega arith))
-              (rw (now, next) (rest-one asked b _ here rest (chosen_any here n c some)))
+              (rw (now, next) (rest_one asked b _ here rest (chosen_any here n c some)))
           | no none ↦
               let here : Bench = bench_of zs r.told.last in
               let k = le-ltb n lane_count (omega arith) in
               let stopped = chosen_none here n c (omega arith) in
               let now : r'.told ≡ r.told = e.0 ∙ rw k in
-              over (e.1 ∙ rw k) (rw (now, t, turned_none here stopped) (all_made r.told zs z code (rest-none asked b _ here rest stopped (omega arith))))
+              over (e.1 ∙ rw k) (rw (now, t, turned_none here stopped) (all_made r.told zs z code (rest_none asked b _ here rest stopped (omega arith))))
         ]
     way_on n ws r' (over none _) c t e = absurd (omega arith)
 

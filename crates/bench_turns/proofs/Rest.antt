@@ -7,7 +7,7 @@ use native.Mathlib.Omega.{arith}
 use lib.ListN.{length}
 use Rattle.bench_turns.specs.declared.Bench.{Bench}
 use Rattle.bench_turns.specs.Turning.{any_runs, turned, turned_by, served_by}
-use Rattle.bench_turns.proofs.Made.{none-turned, none-served, one-served}
+use Rattle.bench_turns.proofs.Made.{none_turned, none_served, one_served}
 
 module _ (asked : ℕ) (start : Bench) where
   abbrev pub Done : ℕ → Bench → Type 0
@@ -21,17 +21,17 @@ module _ (asked : ℕ) (start : Bench) where
   rest_all k e = let f : k ≡ asked = omega (arith, e) in (rw f (omega arith), rw f)
 
   module _ (made : ℕ) (b : Bench) (rest : Rest made b) where
-    pub rest-one : any_runs b ≡ true → Rest (made + 1) (turned b)
+    pub rest_one : any_runs b ≡ true → Rest (made + 1) (turned b)
     unfolding turned_by
-    rest-one any k e =
+    rest_one any k e =
         let r = rest (suc k) (omega (arith, e)) in
-        (omega (arith, r.0, ap length (one-served k b any)), r.1)
+        (omega (arith, r.0, ap length (one_served k b any)), r.1)
 
-    pub rest-none : any_runs b ≡ false → made ≤ asked → Done made b
-    rest-none none h =
+    pub rest_none : any_runs b ≡ false → made ≤ asked → Done made b
+    rest_none none h =
         let k : ℕ = asked - made in
         let r = rest k (omega arith) in
-        (omega (arith, r.0, ap length (none-served k b none)), sym (none-turned k b none) ∙ r.1)
+        (omega (arith, r.0, ap length (none_served k b none)), sym (none_turned k b none) ∙ r.1)
 
     pub rest_over : made ≡ asked → Done made b
     unfolding turned_by served_by

@@ -28,15 +28,15 @@ pub after_in : (i : ℕ) → i + 1 < lane_count → after i ≡ i + 1
 unfolding after
 after_in i h = cond-true (ltb (i + 1) lane_count) (i + 1) 0 (lt-ltb (i + 1) lane_count h)
 
-pub after-end : (i : ℕ) → lane_count ≤ i + 1 → after i ≡ 0
+pub after_end : (i : ℕ) → lane_count ≤ i + 1 → after i ≡ 0
 unfolding after
-after-end i h = cond-false (ltb (i + 1) lane_count) (i + 1) 0 (le-ltb (i + 1) lane_count h)
+after_end i h = cond-false (ltb (i + 1) lane_count) (i + 1) 0 (le-ltb (i + 1) lane_count h)
 
-pub after-lt : (i : ℕ) → after i < lane_count
-after-lt i =
+pub after_lt : (i : ℕ) → after i < lane_count
+after_lt i =
     elim (dec_lt (i + 1) lane_count) [
       | yes h ↦ rw after_in h
-      | no h ↦ rw (after-end i (omega arith)) some_lane
+      | no h ↦ rw (after_end i (omega arith)) some_lane
     ]
 
 -- how many steps lead from lane i to lane n
@@ -58,14 +58,14 @@ steps-lt i n hi hn =
       | no h ↦ omega (arith, steps-round i n (omega arith))
     ]
 
-pub steps-after : (i n : ℕ) → i < lane_count → n < lane_count → i ≢ n → suc (steps (after i) n) ≡ steps i n
-steps-after i n hi hn ne =
+pub steps_after : (i n : ℕ) → i < lane_count → n < lane_count → i ≢ n → suc (steps (after i) n) ≡ steps i n
+steps_after i n hi hn ne =
     elim (dec_lt (i + 1) lane_count) [
       | yes l ↦ elim (dec_le i n) [
         | yes h ↦ rw (after_in i l) (omega (arith, steps_up i n h, steps_up (i + 1) n (omega arith)))
         | no h ↦ rw (after_in i l) (omega (arith, steps-round i n (omega arith), steps-round (i + 1) n (omega arith)))
       ]
-      | no l ↦ rw (after-end i (omega arith)) (omega (arith, steps-round i n (omega arith), steps_up 0 n (omega arith)))
+      | no l ↦ rw (after_end i (omega arith)) (omega (arith, steps-round i n (omega arith), steps_up 0 n (omega arith)))
     ]
 
 -- ---- the search
@@ -79,15 +79,15 @@ unfolding runs
 runs-phase ls n e = eqb-true (lane_at ls n).phase running e
 
 -- one step of the search, and its end
-pub seek-here : (k : ℕ) (ls : List Lane) (i : ℕ) → 0 < k → (lane_at ls i).phase ≡ running → seek k ls i ≡ i
+pub seek_here : (k : ℕ) (ls : List Lane) (i : ℕ) → 0 < k → (lane_at ls i).phase ≡ running → seek k ls i ≡ i
 unfolding seek
-seek-here zero ls i some e = absurd (not-suc-le-zero some)
-seek-here (suc k) ls i some e = cond-true (runs ls i) i _ (phase-runs ls i e)
+seek_here zero ls i some e = absurd (not-suc-le-zero some)
+seek_here (suc k) ls i some e = cond-true (runs ls i) i _ (phase-runs ls i e)
 
-pub seek-on : (k : ℕ) (ls : List Lane) (i : ℕ) → 0 < k → (lane_at ls i).phase ≢ running → seek k ls i ≡ seek (k - 1) ls (after i)
+pub seek_on : (k : ℕ) (ls : List Lane) (i : ℕ) → 0 < k → (lane_at ls i).phase ≢ running → seek k ls i ≡ seek (k - 1) ls (after i)
 unfolding seek runs
-seek-on zero ls i some ne = absurd (not-suc-le-zero some)
-seek-on (suc k) ls i some ne = cond-false (runs ls i) i _ (ne_eqb (lane_at ls i).phase running ne) ∙ ap (λ (j : ℕ). seek j ls (after i)) (sym (sub-one (suc k)))
+seek_on zero ls i some ne = absurd (not-suc-le-zero some)
+seek_on (suc k) ls i some ne = cond-false (runs ls i) i _ (ne_eqb (lane_at ls i).phase running ne) ∙ ap (λ (j : ℕ). seek j ls (after i)) (sym (sub-one (suc k)))
 
 pub seek-over : (k : ℕ) (ls : List Lane) (i : ℕ) → k ≤ 0 → seek k ls i ≡ lane_count
 unfolding seek
@@ -104,14 +104,14 @@ seek_finds : (ls : List Lane) (n : ℕ) → n < lane_count → runs ls n ≡ tru
 unfolding seek
 seek_finds ls n hn r zero i hi h = absurd (not-suc-le-zero h)
 seek_finds ls n hn r (suc k) i hi h =
-    go (runs ls i) refl (λ ne. seek_finds ls n hn r k (after i) (after-lt i) (omega (arith, steps-after i n hi hn ne)))
+    go (runs ls i) refl (λ ne. seek_finds ls n hn r k (after i) (after_lt i) (omega (arith, steps_after i n hi hn ne)))
   where
     go : (t : Bool) → runs ls i ≡ t → (i ≢ n → Found ls n (after i) (seek k ls (after i))) → Found ls n i (cond t i (seek k ls (after i)))
     go true e more = record { lane = hi; runs_there = e; near = le_refl (steps i n) }
     go false e more =
         let ne : i ≢ n = λ p. false≢true (sym e ∙ ap (runs ls) p ∙ r) in
         let f : Found ls n (after i) (seek k ls (after i)) = more ne in
-        record { lane = f.lane; runs_there = f.runs_there; near = omega (arith, steps-after i n hi hn ne, f.near) }
+        record { lane = f.lane; runs_there = f.runs_there; near = omega (arith, steps_after i n hi hn ne, f.near) }
 
 seek-runs : (ls : List Lane) (k i : ℕ) → seek k ls i < lane_count → runs ls (seek k ls i) ≡ true
 unfolding seek
@@ -133,7 +133,7 @@ module _ (b : Bench) where
 
   pub chosen-near : (n : ℕ) → n < lane_count → runs b.lanes n ≡ true → Found b.lanes n (after b.last) (chosen b)
   unfolding chosen
-  chosen-near n hn r = seek_finds b.lanes n hn r lane_count (after b.last) (after-lt b.last) (steps-lt _ n (after-lt b.last) hn)
+  chosen-near n hn r = seek_finds b.lanes n hn r lane_count (after b.last) (after_lt b.last) (steps-lt _ n (after_lt b.last) hn)
 
   pub chosen-lt : any_runs b ≡ true → chosen b < lane_count
   unfolding any_runs

@@ -25,11 +25,11 @@ pub record Sound (b : Bench) : Type 0 where
   pub last_lt : b.last < lane_count
   pub each : (i : ℕ) → i < lane_count → sound_lane (lane_at b.lanes i) ≡ true
 
-all-at : (ls : List Lane) → all_sound ls ≡ true → (i : ℕ) → i < length ls → sound_lane (lane_at ls i) ≡ true
+all_at : (ls : List Lane) → all_sound ls ≡ true → (i : ℕ) → i < length ls → sound_lane (lane_at ls i) ≡ true
 unfolding all_sound
-all-at [] e i h = absurd (not-suc-le-zero h)
-all-at (l ∷ ls) e zero h = (both (sound_lane l) (all_sound ls) e).0
-all-at (l ∷ ls) e (suc i) h = all-at ls (both (sound_lane l) (all_sound ls) e).1 i (le_of_suc-le-suc h)
+all_at [] e i h = absurd (not-suc-le-zero h)
+all_at (l ∷ ls) e zero h = (both (sound_lane l) (all_sound ls) e).0
+all_at (l ∷ ls) e (suc i) h = all_at ls (both (sound_lane l) (all_sound ls) e).1 i (le_of_suc-le-suc h)
 
 all_of : (ls : List Lane) → ((i : ℕ) → i < length ls → sound_lane (lane_at ls i) ≡ true) → all_sound ls ≡ true
 unfolding all_sound
@@ -43,8 +43,8 @@ all_from ls i h = ap all_sound (drop-cons ls i _ h) ∙ ap (λ (j : ℕ). sound_
 
 -- looking at the records one by one, those before place i being sound
 module _ (ls : List Lane) (i : ℕ) (so_far : all_sound (drop i ls) ≡ all_sound ls) where
-  pub not-all : i < length ls → sound_lane (lane_at ls i) ≡ false → false ≡ all_sound ls
-  not-all h e = sym (all_from ls i h ∙ ap (λ (t : Bool). t && all_sound (drop (i + 1) ls)) e) ∙ so_far
+  pub not_all : i < length ls → sound_lane (lane_at ls i) ≡ false → false ≡ all_sound ls
+  not_all h e = sym (all_from ls i h ∙ ap (λ (t : Bool). t && all_sound (drop (i + 1) ls)) e) ∙ so_far
 
   pub one_more : i < length ls → sound_lane (lane_at ls i) ≡ true → all_sound (drop (i + 1) ls) ≡ all_sound ls
   one_more h e = sym (all_from ls i h ∙ ap (λ (t : Bool). t && all_sound (drop (i + 1) ls)) e) ∙ so_far
@@ -61,7 +61,7 @@ module _ (b : Bench) where
       let h : (two ≡ true) × (all_sound b.lanes ≡ true) = both two (all_sound b.lanes) e in
       let g : (eqb (length b.lanes) lane_count ≡ true) × (ltb b.last lane_count ≡ true) = both _ (ltb b.last lane_count) h.0 in
       let size : length b.lanes ≡ lane_count = eqb-true (length b.lanes) lane_count g.0 in
-      record { size = size; last_lt = ltb-true b.last lane_count g.1; each = λ i l. all-at b.lanes h.1 i (rw size l) }
+      record { size = size; last_lt = ltb-true b.last lane_count g.1; each = λ i l. all_at b.lanes h.1 i (rw size l) }
 
   pub says_sound : Sound b → sound_bench b ≡ true
   unfolding sound_bench

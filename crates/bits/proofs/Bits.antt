@@ -17,28 +17,28 @@ two = zero-lt-suc 1
 abbrev is_one : ℕ → Bool
 is_one d = eqb d 1
 
-pub is_one-one : (b : Bool) → eqb (one b) 1 ≡ b
-is_one-one false = refl
-is_one-one true = refl
+pub is_one_one : (b : Bool) → eqb (one b) 1 ≡ b
+is_one_one false = refl
+is_one_one true = refl
 
-pub one-lt : (b : Bool) → one b < 2
-one-lt false = lit< tt
-one-lt true = lit< tt
+pub one_lt : (b : Bool) → one b < 2
+one_lt false = lit< tt
+one_lt true = lit< tt
 
-one-is_one : (d : ℕ) → d < 2 → one (is_one d) ≡ d
-one-is_one zero h = refl
-one-is_one (suc zero) h = refl
-one-is_one (suc (suc d)) h = absurd (not-suc-le-zero (le_of_suc-le-suc (le_of_suc-le-suc h)))
+one_is_one : (d : ℕ) → d < 2 → one (is_one d) ≡ d
+one_is_one zero h = refl
+one_is_one (suc zero) h = refl
+one_is_one (suc (suc d)) h = absurd (not-suc-le-zero (le_of_suc-le-suc (le_of_suc-le-suc h)))
 
 pub one_bit : (x i : ℕ) → one (bit x i) ≡ digit 2 x i
 unfolding bit
-one_bit x i = one-is_one (digit 2 x i) (digit_lt 2 two x i)
+one_bit x i = one_is_one (digit 2 x i) (digit_lt 2 two x i)
 
 -- ---- a number and its bits
 
 pub of_bits_lt : (n : ℕ) (f : ℕ → Bool) → of_bits n f < 2 ^ n
 unfolding of_bits
-of_bits_lt n f = number_lt 2 two n (λ i. one (f i)) (λ i h. one-lt (f i))
+of_bits_lt n f = number_lt 2 two n (λ i. one (f i)) (λ i h. one_lt (f i))
 
 pub of_bits_cong : (n : ℕ) (f g : ℕ → Bool) → ((i : ℕ) → i < n → f i ≡ g i) → of_bits n f ≡ of_bits n g
 unfolding of_bits
@@ -46,7 +46,7 @@ of_bits_cong n f g e = number_cong 2 n (λ i. one (f i)) (λ i. one (g i)) (λ i
 
 pub bit_of_bits : (n : ℕ) (f : ℕ → Bool) (i : ℕ) → i < n → bit (of_bits n f) i ≡ f i
 unfolding bit of_bits
-bit_of_bits n f i h = ap is_one (digit-number 2 two n (λ j. one (f j)) (λ j l. one-lt (f j)) i h) ∙ is_one-one (f i)
+bit_of_bits n f i h = ap is_one (digit-number 2 two n (λ j. one (f j)) (λ j l. one_lt (f j)) i h) ∙ is_one_one (f i)
 
 pub of_bits_bit : (n x : ℕ) → x < 2 ^ n → of_bits n (bit x) ≡ x
 unfolding of_bits
@@ -102,8 +102,8 @@ pub bit-mod : (x n i : ℕ) → i < n → bit (x % 2 ^ n) i ≡ bit x i
 unfolding bit
 bit-mod x n i h = ap is_one (digit-mod 2 two x n i h)
 
-pub bit-mod_out : (x n i : ℕ) → n ≤ i → bit (x % 2 ^ n) i ≡ false
-bit-mod_out x n i l = bit_out n (x % 2 ^ n) i (mod-lt x (pow_pos n)) l
+pub bit_mod_out : (x n i : ℕ) → n ≤ i → bit (x % 2 ^ n) i ≡ false
+bit_mod_out x n i l = bit_out n (x % 2 ^ n) i (mod-lt x (pow_pos n)) l
 
 -- a word of w bits shifted left by k places
 pub bit_shl_cut : (w x k i : ℕ) → i < w → bit (x * 2 ^ k % 2 ^ w) i ≡ (leb k i && bit x (i - k))

@@ -14,8 +14,8 @@ pub written-length : (new old r : List ℕ) (i : ℕ) → length new ≡ length 
 written-length new old r i len h e = ap length e ∙ simp (length-append, length-take, length-drop) (omega arith)
 
 -- one place more
-pub written-more : (new old r : List ℕ) (i y : ℕ) → length new ≡ length old → i < length old → r ≡ written new old i → y ≡ get_or new i 0 → set r i y ≡ written new old (i + 1)
-written-more new old r i y len h e v =
+pub written_more : (new old r : List ℕ) (i y : ℕ) → length new ≡ length old → i < length old → r ≡ written new old i → y ≡ get_or new i 0 → set r i y ≡ written new old (i + 1)
+written_more new old r i y len h e v =
     ap (λ (l : List ℕ). set l i y) (e ∙ ap (λ (l : List ℕ). take i new ++ l) (drop-cons old i 0 h))
     ∙ set_at (take i new) (get_or old i 0) (drop (suc i) old) y i (length-take-le i new (omega arith))
     ∙ ap (λ (x : ℕ). take i new ++ (x ∷ drop (suc i) old)) v
@@ -24,16 +24,16 @@ written-more new old r i y len h e v =
     ∙ ap (λ (n : ℕ). take n new ++ drop n old) (sym (add-one i))
 
 -- what is not written yet
-pub written-rest : (new old r : List ℕ) (i k : ℕ) → length new ≡ length old → i ≤ length old → r ≡ written new old i → get_or r (i + k) 0 ≡ get_or old (i + k) 0
-written-rest new old r i k len h e =
+pub written_rest : (new old r : List ℕ) (i k : ℕ) → length new ≡ length old → i ≤ length old → r ≡ written new old i → get_or r (i + k) 0 ≡ get_or old (i + k) 0
+written_rest new old r i k len h e =
     let front : length (take i new) ≡ i = length-take-le i new (omega arith) in
     ap (λ (l : List ℕ). get_or l (i + k) 0) e
     ∙ ap (λ (n : ℕ). get_or (take i new ++ drop i old) (n + k) 0) (sym front)
     ∙ get_or-append-add (take i new) (drop i old) k 0
     ∙ get_or-drop i old k 0
 
-pub written-here : (new old r : List ℕ) (i : ℕ) → length new ≡ length old → i ≤ length old → r ≡ written new old i → get_or r i 0 ≡ get_or old i 0
-written-here new old r i len h e = rw (nothing) at (written-rest new old r i 0 len h e)
+pub written_here : (new old r : List ℕ) (i : ℕ) → length new ≡ length old → i ≤ length old → r ≡ written new old i → get_or r i 0 ≡ get_or old i 0
+written_here new old r i len h e = rw (nothing) at (written_rest new old r i 0 len h e)
   where
     nothing : i + 0 ≡ i
     nothing = omega arith

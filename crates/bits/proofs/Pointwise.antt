@@ -22,18 +22,18 @@ flat w (shl e k) = false
 flat w (low e k) = false
 
 -- one bit of the value, where variable k has the bit f k
-abbrev pub on-bits : W → (ℕ → Bool) → Bool
-on-bits (var k) f = f k
-on-bits (lit n) f = eqb (n % 2) 1
-on-bits (and a b) f = on-bits a f && on-bits b f
-on-bits (or a b) f = on-bits a f || on-bits b f
-on-bits (xor a b) f = on-bits a f ⊕ on-bits b f
-on-bits (shr e k) f = false
-on-bits (shl e k) f = false
-on-bits (low e k) f = false
+abbrev pub on_bits : W → (ℕ → Bool) → Bool
+on_bits (var k) f = f k
+on_bits (lit n) f = eqb (n % 2) 1
+on_bits (and a b) f = on_bits a f && on_bits b f
+on_bits (or a b) f = on_bits a f || on_bits b f
+on_bits (xor a b) f = on_bits a f ⊕ on_bits b f
+on_bits (shr e k) f = false
+on_bits (shl e k) f = false
+on_bits (low e k) f = false
 
 module _ (w : ℕ) (ρ : List ℕ) (i : ℕ) (h : i < w) where
-  pub pointwise : (e : W) → T (flat w e) → bit (value w ρ e) i ≡ on-bits e (λ k. bit (get_or ρ k 0) i)
+  pub pointwise : (e : W) → T (flat w e) → bit (value w ρ e) i ≡ on_bits e (λ k. bit (get_or ρ k 0) i)
   unfolding bit digit
   pointwise (var k) t = refl
   pointwise (lit n) t =
@@ -57,15 +57,15 @@ module _ (w : ℕ) (ρ : List ℕ) (i : ℕ) (h : i < w) where
 abbrev both : (Bool → Bool) → Bool
 both f = f false && f true
 
-at-bit : (f : Bool → Bool) → T (both f) → (b : Bool) → T (f b)
-at-bit f t false = and_left (f false) (f true) t
-at-bit f t true = and_right (f false) (f true) t
+at_bit : (f : Bool → Bool) → T (both f) → (b : Bool) → T (f b)
+at_bit f t false = and_left (f false) (f true) t
+at_bit f t true = and_right (f false) (f true) t
 
-abbrev pub all-sixteen : (Bool → Bool → Bool → Bool → Bool) → Bool
-all-sixteen f = both (λ a. both (λ b. both (λ c. both (λ d. f a b c d))))
+abbrev pub all_sixteen : (Bool → Bool → Bool → Bool → Bool) → Bool
+all_sixteen f = both (λ a. both (λ b. both (λ c. both (λ d. f a b c d))))
 
-pub at-sixteen : (f : Bool → Bool → Bool → Bool → Bool) → T (all-sixteen f) → (a b c d : Bool) → T (f a b c d)
-at-sixteen f t a b c d =
-    at-bit (λ d. f a b c d)
-    (at-bit (λ c. both (λ d. f a b c d))
-    (at-bit (λ b. both (λ c. both (λ d. f a b c d))) (at-bit (λ a. both (λ b. both (λ c. both (λ d. f a b c d)))) t a) b) c) d
+pub at_sixteen : (f : Bool → Bool → Bool → Bool → Bool) → T (all_sixteen f) → (a b c d : Bool) → T (f a b c d)
+at_sixteen f t a b c d =
+    at_bit (λ d. f a b c d)
+    (at_bit (λ c. both (λ d. f a b c d))
+    (at_bit (λ b. both (λ c. both (λ d. f a b c d))) (at_bit (λ a. both (λ b. both (λ c. both (λ d. f a b c d)))) t a) b) c) d

@@ -10,7 +10,7 @@ use lib.Dec.{T, eqb, eqb→eq, ltb, ltb→lt, nltb→le, leb, leb→le}
 use lib.ListN.{get_or}
 use lib.Pow.{pow_pos, pow_mono}
 use Rattle.bits.specs.Digit.{digit, bit, of_bits, ◌⊕◌}
-use Rattle.bits.proofs.Bits.{bit_out, bit_shr, bit_shl, bit_shl_low, bit-mod, bit-mod_out, bit-and, bit-or, bit-xor, bit_ext, bit_of_bits, of_bits_lt, ⊕-false, ⊕-self, ⊕_assoc, ⊕_comm, ⊕_equal}
+use Rattle.bits.proofs.Bits.{bit_out, bit_shr, bit_shl, bit_shl_low, bit-mod, bit_mod_out, bit-and, bit-or, bit-xor, bit_ext, bit_of_bits, of_bits_lt, ⊕-false, ⊕-self, ⊕_assoc, ⊕_comm, ⊕_equal}
 use Rattle.bits.proofs.Computed.{below, at, and_left, and_right}
 
 -- ---- expressions
@@ -39,12 +39,12 @@ Within [] (x ∷ ρ) = ⊥
 Within (v ∷ vs) [] = ⊥
 Within (v ∷ vs) (x ∷ ρ) = (x < 2 ^ v) × Within vs ρ
 
-pub within-at : (vs ρ : List ℕ) → Within vs ρ → (k : ℕ) → get_or ρ k 0 < 2 ^ get_or vs k 0
-within-at [] [] h k = pow_pos 0
-within-at [] (x ∷ ρ) h k = absurd h
-within-at (v ∷ vs) [] h k = absurd h
-within-at (v ∷ vs) (x ∷ ρ) h zero = h.0
-within-at (v ∷ vs) (x ∷ ρ) h (suc k) = within-at vs ρ h.1 k
+pub within_at : (vs ρ : List ℕ) → Within vs ρ → (k : ℕ) → get_or ρ k 0 < 2 ^ get_or vs k 0
+within_at [] [] h k = pow_pos 0
+within_at [] (x ∷ ρ) h k = absurd h
+within_at (v ∷ vs) [] h k = absurd h
+within_at (v ∷ vs) (x ∷ ρ) h zero = h.0
+within_at (v ∷ vs) (x ∷ ρ) h (suc k) = within_at vs ρ h.1 k
 
 -- ---- what is known of one bit
 
@@ -128,14 +128,14 @@ known-bit vs w (low e k) i = pick (ltb i k) (known-bit vs w e i) zero_s
 
 -- ---- what that says, and that it is so
 
-abbrev bit-of : List ℕ → Atom → Bool
-bit-of ρ a = bit (get_or ρ a.name 0) a.place
+abbrev bit_of : List ℕ → Atom → Bool
+bit_of ρ a = bit (get_or ρ a.name 0) a.place
 
 -- (one atom is its bit and no more, so that a contract's term comes out as it is written)
 abbrev bits_of : List ℕ → List Atom → Bool
 bits_of ρ [] = false
-bits_of ρ (a ∷ []) = bit-of ρ a
-bits_of ρ (a ∷ b ∷ l) = bit-of ρ a ⊕ bits_of ρ (b ∷ l)
+bits_of ρ (a ∷ []) = bit_of ρ a
+bits_of ρ (a ∷ b ∷ l) = bit_of ρ a ⊕ bits_of ρ (b ∷ l)
 
 abbrev pub told : List ℕ → S → Bool
 told ρ (known c k) = c ⊕ bits_of ρ k
@@ -147,12 +147,12 @@ Says ρ (known c k) v = v ≡ c ⊕ bits_of ρ k
 Says ρ unknown v = Unit {0}
 
 module _ (ρ : List ℕ) where
-  bits-cons : (a : Atom) (l : List Atom) → bits_of ρ (a ∷ l) ≡ bit-of ρ a ⊕ bits_of ρ l
-  bits-cons a [] = sym (⊕-false (bit-of ρ a))
+  bits-cons : (a : Atom) (l : List Atom) → bits_of ρ (a ∷ l) ≡ bit_of ρ a ⊕ bits_of ρ l
+  bits-cons a [] = sym (⊕-false (bit_of ρ a))
   bits-cons a (b ∷ l) = refl
 
-  same-atom : (a b : Atom) → T (same_atom a b) → bit-of ρ a ≡ bit-of ρ b
-  same-atom a b t =
+  same_atom_lem : (a b : Atom) → T (same_atom a b) → bit_of ρ a ≡ bit_of ρ b
+  same_atom_lem a b t =
       ap₂ (λ (k i : ℕ). bit (get_or ρ k 0) i)
       (eqb→eq a.name b.name (and_left (eqb a.name b.name) (eqb a.place b.place) t))
       (eqb→eq a.place b.place (and_right (eqb a.name b.name) (eqb a.place b.place) t))
@@ -160,25 +160,25 @@ module _ (ρ : List ℕ) where
   swap_heads : (x y z : Bool) → y ⊕ (x ⊕ z) ≡ x ⊕ (y ⊕ z)
   swap_heads x y z = sym (⊕_assoc y x z) ∙ ap (λ (u : Bool). u ⊕ z) (⊕_comm y x) ∙ ⊕_assoc x y z
 
-  toggle-bits : (a : Atom) (l : List Atom) → bits_of ρ (toggle a l) ≡ bit-of ρ a ⊕ bits_of ρ l
-  toggle-bits a [] = sym (⊕-false (bit-of ρ a))
+  toggle-bits : (a : Atom) (l : List Atom) → bits_of ρ (toggle a l) ≡ bit_of ρ a ⊕ bits_of ρ l
+  toggle-bits a [] = sym (⊕-false (bit_of ρ a))
   toggle-bits a (b ∷ l) = go (toggle-bits a l) (same_atom a b) refl
     where
-      go : bits_of ρ (toggle a l) ≡ bit-of ρ a ⊕ bits_of ρ l → (t : Bool) → same_atom a b ≡ t
-          → bits_of ρ (pick t l (b ∷ toggle a l)) ≡ bit-of ρ a ⊕ bits_of ρ (b ∷ l)
+      go : bits_of ρ (toggle a l) ≡ bit_of ρ a ⊕ bits_of ρ l → (t : Bool) → same_atom a b ≡ t
+          → bits_of ρ (pick t l (b ∷ toggle a l)) ≡ bit_of ρ a ⊕ bits_of ρ (b ∷ l)
       go ih true e =
           sym
-          (ap (λ (u : Bool). bit-of ρ a ⊕ u) (bits-cons b l) ∙ sym (⊕_assoc (bit-of ρ a) (bit-of ρ b) (bits_of ρ l))
-          ∙ ap (λ (u : Bool). u ⊕ bit-of ρ b ⊕ bits_of ρ l) (same-atom a b (rw e tt))
-          ∙ ap (λ (u : Bool). u ⊕ bits_of ρ l) (⊕-self (bit-of ρ b)))
+          (ap (λ (u : Bool). bit_of ρ a ⊕ u) (bits-cons b l) ∙ sym (⊕_assoc (bit_of ρ a) (bit_of ρ b) (bits_of ρ l))
+          ∙ ap (λ (u : Bool). u ⊕ bit_of ρ b ⊕ bits_of ρ l) (same_atom_lem a b (rw e tt))
+          ∙ ap (λ (u : Bool). u ⊕ bits_of ρ l) (⊕-self (bit_of ρ b)))
       go ih false e =
-          bits-cons b (toggle a l) ∙ ap (λ (u : Bool). bit-of ρ b ⊕ u) ih ∙ swap_heads (bit-of ρ a) (bit-of ρ b) (bits_of ρ l)
-          ∙ ap (λ (u : Bool). bit-of ρ a ⊕ u) (sym (bits-cons b l))
+          bits-cons b (toggle a l) ∙ ap (λ (u : Bool). bit_of ρ b ⊕ u) ih ∙ swap_heads (bit_of ρ a) (bit_of ρ b) (bits_of ρ l)
+          ∙ ap (λ (u : Bool). bit_of ρ a ⊕ u) (sym (bits-cons b l))
 
   toggles-bits : (k l : List Atom) → bits_of ρ (toggles k l) ≡ bits_of ρ k ⊕ bits_of ρ l
   toggles-bits [] l = refl
   toggles-bits (a ∷ k) l =
-      toggle-bits a (toggles k l) ∙ ap (λ (u : Bool). bit-of ρ a ⊕ u) (toggles-bits k l) ∙ sym (⊕_assoc (bit-of ρ a) (bits_of ρ k) (bits_of ρ l))
+      toggle-bits a (toggles k l) ∙ ap (λ (u : Bool). bit_of ρ a ⊕ u) (toggles-bits k l) ∙ sym (⊕_assoc (bit_of ρ a) (bits_of ρ k) (bits_of ρ l))
       ∙ ap (λ (u : Bool). u ⊕ bits_of ρ l) (sym (bits-cons a k))
 
   same_bits : (k l : List Atom) → T (same_atoms k l) → bits_of ρ k ≡ bits_of ρ l
@@ -187,7 +187,7 @@ module _ (ρ : List ℕ) where
   same_bits (a ∷ k) [] t = absurd t
   same_bits (a ∷ k) (b ∷ l) t =
       bits-cons a k
-      ∙ ap₂ ◌⊕◌ (same-atom a b (and_left (same_atom a b) (same_atoms k l) t)) (same_bits k l (and_right (same_atom a b) (same_atoms k l) t))
+      ∙ ap₂ ◌⊕◌ (same_atom_lem a b (and_left (same_atom a b) (same_atoms k l) t)) (same_bits k l (and_right (same_atom a b) (same_atoms k l) t))
       ∙ sym (bits-cons b l)
 
   middle-four : (a b c d : Bool) → (a ⊕ b) ⊕ (c ⊕ d) ≡ (a ⊕ c) ⊕ (b ⊕ d)
@@ -211,11 +211,11 @@ module _ (ρ : List ℕ) where
   and_self false = refl
   and_self true = refl
 
-  not-xor : (c d : Bool) → T (not (c ⊕ d)) → c ≡ d
-  not-xor false false t = refl
-  not-xor false true t = absurd t
-  not-xor true false t = absurd t
-  not-xor true true t = refl
+  not_xor : (c d : Bool) → T (not (c ⊕ d)) → c ≡ d
+  not_xor false false t = refl
+  not_xor false true t = absurd t
+  not_xor true false t = absurd t
+  not_xor true true t = refl
 
   and_says : (s t : S) (u v : Bool) → Says ρ s u → Says ρ t v → Says ρ (and_s s t) (u && v)
   and_says (known false []) t u v p q = ap (λ (x : Bool). x && v) p
@@ -230,7 +230,7 @@ module _ (ρ : List ℕ) where
           let t : T (not (c ⊕ d) && same_atoms (a ∷ k) (b ∷ l)) = rw e tt in
           let same : u ≡ v =
           p
-          ∙ ap₂ ◌⊕◌ (not-xor c d (and_left (not (c ⊕ d)) (same_atoms (a ∷ k) (b ∷ l)) t))
+          ∙ ap₂ ◌⊕◌ (not_xor c d (and_left (not (c ⊕ d)) (same_atoms (a ∷ k) (b ∷ l)) t))
           (same_bits (a ∷ k) (b ∷ l) (and_right (not (c ⊕ d)) (same_atoms (a ∷ k) (b ∷ l)) t))
           ∙ sym q in
           ap (λ (x : Bool). u && x) (sym same) ∙ and_self u ∙ p
@@ -242,11 +242,11 @@ module _ (ρ : List ℕ) where
 
   not_says : (s : S) (u : Bool) → Says ρ s u → Says ρ (not_s s) (not u)
   not_says (known false k) u p = ap not p
-  not_says (known true k) u p = ap not p ∙ not-not (bits_of ρ k)
+  not_says (known true k) u p = ap not p ∙ not_not (bits_of ρ k)
     where
-      not-not : (x : Bool) → not (not x) ≡ x
-      not-not false = refl
-      not-not true = refl
+      not_not : (x : Bool) → not (not x) ≡ x
+      not_not false = refl
+      not_not true = refl
   not_says unknown u p = tt
 
   or_is : (u v : Bool) → (u || v) ≡ not (not u && not v)
@@ -274,16 +274,16 @@ shl_out w x k i = go (ltb i k) (ltb i w) (λ t. ltb→lt i k t) (λ t. ltb→lt 
   where
     go : (a b : Bool) → (T a → i < k) → (T b → i < w) → (T (not b) → w ≤ i) → T (not (not a && b)) → bit (x * 2 ^ k % 2 ^ w) i ≡ false
     go true true p q r t = bit-mod (x * 2 ^ k) w i (q tt) ∙ bit_shl_low x k i (p tt)
-    go true false p q r t = bit-mod_out (x * 2 ^ k) w i (r tt)
+    go true false p q r t = bit_mod_out (x * 2 ^ k) w i (r tt)
     go false true p q r t = absurd t
-    go false false p q r t = bit-mod_out (x * 2 ^ k) w i (r tt)
+    go false false p q r t = bit_mod_out (x * 2 ^ k) w i (r tt)
 
 module _ (vs ρ : List ℕ) (w : ℕ) (inside : Within vs ρ) where
   sound : (e : W) (i : ℕ) → Says ρ (known-bit vs w e i) (bit (value w ρ e) i)
   unfolding bit digit
   sound (var k) i =
       pick_says ρ (ltb i (get_or vs k 0)) (atom k i) (bit (get_or ρ k 0) i) (λ t. refl)
-      (λ t. bit_out (get_or vs k 0) (get_or ρ k 0) i (within-at vs ρ inside k) (nltb→le i (get_or vs k 0) t))
+      (λ t. bit_out (get_or vs k 0) (get_or ρ k 0) i (within_at vs ρ inside k) (nltb→le i (get_or vs k 0) t))
   sound (lit n) i = sym (⊕-false (eqb (n / 2 ^ i % 2) 1))
   sound (and a b) i =
       rw bit-and (and_says ρ (known-bit vs w a i) (known-bit vs w b i) (bit (value w ρ a) i) (bit (value w ρ b) i) (sound a i) (sound b i))
@@ -297,7 +297,7 @@ module _ (vs ρ : List ℕ) (w : ℕ) (inside : Within vs ρ) where
       (λ t. rw (shl_bit w (value w ρ e) k i t) (sound e (i - k))) (shl_out w (value w ρ e) k i)
   sound (low e k) i =
       pick_says ρ (ltb i k) (known-bit vs w e i) (bit (value w ρ e % 2 ^ k) i)
-      (λ t. rw (bit-mod (value w ρ e) k i (ltb→lt i k t)) (sound e i)) (λ t. bit-mod_out (value w ρ e) k i (nltb→le i k t))
+      (λ t. rw (bit-mod (value w ρ e) k i (ltb→lt i k t)) (sound e i)) (λ t. bit_mod_out (value w ρ e) k i (nltb→le i k t))
 
 -- ---- the computed test
 
@@ -318,7 +318,7 @@ tells vs w e n f = below n (λ i. is_zero (xor_s (known-bit vs w e i) (f i)))
 
 module _ (vs ρ : List ℕ) (w : ℕ) (inside : Within vs ρ) where
   pub value-lt : (e : W) → T (sized vs w e) → value w ρ e < 2 ^ w
-  value-lt (var k) t = lt_of_lt_of_le (within-at vs ρ inside k) (pow_mono (leb→le (get_or vs k 0) w t))
+  value-lt (var k) t = lt_of_lt_of_le (within_at vs ρ inside k) (pow_mono (leb→le (get_or vs k 0) w t))
   value-lt (lit n) t = ltb→lt n (2 ^ w) t
   value-lt (and a b) t =
       and_lt w (value w ρ a) (value w ρ b) (value-lt a (and_left (sized vs w a) (sized vs w b) t)) (value-lt b (and_right (sized vs w a) (sized vs w b) t))
@@ -343,8 +343,8 @@ module _ (vs ρ : List ℕ) (w : ℕ) (inside : Within vs ρ) where
   equal_bits unknown t u p z = absurd z
 
   -- one bit, by the test
-  pub bit-by_test : (e : W) (n : ℕ) (f : ℕ → S) → T (tells vs w e n f) → (i : ℕ) → i < n → bit (value w ρ e) i ≡ told ρ (f i)
-  bit-by_test e n f t i h =
+  pub bit_by_test : (e : W) (n : ℕ) (f : ℕ → S) → T (tells vs w e n f) → (i : ℕ) → i < n → bit (value w ρ e) i ≡ told ρ (f i)
+  bit_by_test e n f t i h =
       equal_bits (known-bit vs w e i) (f i) (bit (value w ρ e) i) (sound vs ρ w inside e i)
       (at n (λ j. is_zero (xor_s (known-bit vs w e j) (f j))) t i h)
 
@@ -352,4 +352,4 @@ module _ (vs ρ : List ℕ) (w : ℕ) (inside : Within vs ρ) where
   pub by_test : (e : W) (f : ℕ → S) → T (sized vs w e && tells vs w e w f) → value w ρ e ≡ of_bits w (λ i. told ρ (f i))
   by_test e f t =
       bit_ext w (value w ρ e) (of_bits w (λ i. told ρ (f i))) (value-lt e (and_left (sized vs w e) (tells vs w e w f) t)) (of_bits_lt w (λ i. told ρ (f i)))
-      (λ i h. bit-by_test e w f (and_right (sized vs w e) (tells vs w e w f) t) i h ∙ sym (bit_of_bits w (λ j. told ρ (f j)) i h))
+      (λ i h. bit_by_test e w f (and_right (sized vs w e) (tells vs w e w f) t) i h ∙ sym (bit_of_bits w (λ j. told ρ (f j)) i h))

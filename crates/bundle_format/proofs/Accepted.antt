@@ -11,7 +11,7 @@ use Rattle.answers.specs.Order.{unless}
 use Rattle.answers.proofs.Passed.{passed}
 use Rattle.bits.proofs.Truth.{both, together}
 use Rattle.cmac.specs.Calls.{same}
-use Rattle.cmac.proofs.Strings.{same_refl, same-only}
+use Rattle.cmac.proofs.Strings.{same_refl, same_only}
 use Rattle.bundle_format.specs.Format.{first_body, tag_of}
 use Rattle.bundle_format.specs.Reader.{edition_of, count_of, stated_of, end_of, rows_of, right_size, sound_rows, well_formed, all_known, read_code}
 
@@ -33,9 +33,9 @@ pub record Whole (reader : ℕ) (key b : List ℕ) : Type 0 where
   pub tag : drop (end_of b) b ≡ tag_of key (take (end_of b) b)
   pub formed : Formed reader b
 
-pub size-only : (b : List ℕ) → right_size b ≡ true → Sized b
+pub size_only : (b : List ℕ) → right_size b ≡ true → Sized b
 unfolding right_size
-size-only b e =
+size_only b e =
     let p = both (leb 24 (length b) && leb (length b) 65536) (eqb (stated_of b) (length b)) e in
     let q = both (leb 24 (length b)) (leb (length b) 65536) p.0 in
     record { least = leb-true 24 (length b) q.0; most = leb-true (length b) 65536 q.1; stated = eqb-true (stated_of b) (length b) p.1 }
@@ -47,9 +47,9 @@ size_if b s =
     (together (leb 24 (length b)) (leb (length b) 65536) (le-leb 24 (length b) s.least) (le-leb (length b) 65536 s.most))
     (eq-eqb (stated_of b) (length b) s.stated)
 
-pub formed-only : (reader : ℕ) (b : List ℕ) → well_formed reader b ≡ true → Formed reader b
+pub formed_only : (reader : ℕ) (b : List ℕ) → well_formed reader b ≡ true → Formed reader b
 unfolding well_formed
-formed-only reader b e =
+formed_only reader b e =
     let t1 : Bool = leb 1 (edition_of b) in
     let t2 : Bool = leb (count_of b) 256 in
     let t3 : Bool = leb (first_body (count_of b)) (end_of b) in
@@ -92,9 +92,9 @@ module _ (reader : ℕ) (key b : List ℕ) where
       let p5 = passed t5 MUST_KNOW DONE refl p4.1 in (
         record {
           keyed = eqb-true (length key) 16 p1.0;
-          size = size-only b p2.0;
-          tag = same-only (drop (end_of b) b) (tag_of key (take (end_of b) b)) p3.0;
-          formed = formed-only reader b p4.0;
+          size = size_only b p2.0;
+          tag = same_only (drop (end_of b) b) (tag_of key (take (end_of b) b)) p3.0;
+          formed = formed_only reader b p4.0;
         },
         p5.0,
       )

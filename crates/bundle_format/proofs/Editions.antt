@@ -13,11 +13,11 @@ use Rattle.bundle_format.specs.Format.{kinds, knows, good_value, Setting, good_s
 use Rattle.bundle_format.specs.Reader.{in_place, in_kind}
 use Rattle.bundle_format.specs.declared.Row.{Row}
 
-pub kinds-most : (edition : ℕ) → kinds edition ≤ 3
+pub kinds_most : (edition : ℕ) → kinds edition ≤ 3
 unfolding kinds
-kinds-most zero = lit≤ tt
-kinds-most (suc zero) = lit≤ tt
-kinds-most (suc (suc e)) = lit≤ tt
+kinds_most zero = lit≤ tt
+kinds_most (suc zero) = lit≤ tt
+kinds_most (suc (suc e)) = lit≤ tt
 
 pub kinds_grow : (e f : ℕ) → e ≤ f → kinds e ≤ kinds f
 unfolding kinds
@@ -73,9 +73,9 @@ pub record Good (edition low : ℕ) (s : Setting) : Type 0 where
   pub valued : good_value s.kind s.body ≡ true
   pub flag : s.must ≤ 1
 
-pub good-only : (edition low : ℕ) (s : Setting) → good_setting edition low s ≡ true → Good edition low s
+pub good_only : (edition low : ℕ) (s : Setting) → good_setting edition low s ≡ true → Good edition low s
 unfolding good_setting
-good-only edition low s e =
+good_only edition low s e =
     let t1 : Bool = leb low s.id in
     let t2 : Bool = ltb s.id (2 ^ 32) in
     let t3 : Bool = knows edition s.kind in
@@ -113,9 +113,9 @@ pub record Stands (end low at : ℕ) (r : Row) : Type 0 where
   pub ends : at + r.len ≤ end
   pub flag : r.must ≤ 1
 
-pub stands-only : (end low at : ℕ) (r : Row) → in_place end low at r ≡ true → Stands end low at r
+pub stands_only : (end low at : ℕ) (r : Row) → in_place end low at r ≡ true → Stands end low at r
 unfolding in_place
-stands-only end low at r e =
+stands_only end low at r e =
     let t1 : Bool = leb low r.id in
     let t2 : Bool = eqb r.at at in
     let t3 : Bool = leb (at + r.len) end in
@@ -145,10 +145,10 @@ in_kind_lem reader edition kind body k g =
     (or_right (not (knows reader kind)) (good_value kind body) g)
 
 -- of a bundle of the reader's edition or an earlier one, what is right for the reader is so for the edition
-pub kind-only : (reader edition kind : ℕ) (body : List ℕ) → edition ≤ reader → in_kind reader edition kind body ≡ true
+pub kind_only : (reader edition kind : ℕ) (body : List ℕ) → edition ≤ reader → in_kind reader edition kind body ≡ true
     → (knows edition kind ≡ true) × (good_value kind body ≡ true)
 unfolding in_kind
-kind-only reader edition kind body h e =
+kind_only reader edition kind body h e =
     let p = both (ltb reader edition || knows edition kind) (not (knows reader kind) || good_value kind body) e in
     let own : knows edition kind ≡ true = or_else (ltb reader edition) (knows edition kind) p.0 (le-ltb reader edition h) in
     let known : knows reader kind ≡ true = known-later edition reader kind h own in

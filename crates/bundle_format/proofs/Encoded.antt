@@ -12,7 +12,7 @@ use Rattle.answers.specs.Numbers.{MUST_KNOW, DONE}
 use Rattle.answers.specs.Order.{unless}
 use Rattle.bits.proofs.Truth.{both, together}
 use Rattle.published.specs.Bytes.{to_bytes}
-use Rattle.published.proofs.Reading.{from-to}
+use Rattle.published.proofs.Reading.{from_to}
 use Rattle.published.specs.Gift128.{encrypted}
 use Rattle.cmac.proofs.Chaining.{length-encrypted, length-cmac}
 use Rattle.bundle_format.specs.Format.{kinds, knows, Setting, good_setting, good_from, header, table_of, first_body, row_for, placed, bodies, total_of, untagged, tag_of, encode, good_list}
@@ -20,7 +20,7 @@ use Rattle.bundle_format.specs.Reader.{number_at, edition_of, count_of, stated_o
 use Rattle.bundle_format.specs.declared.Row.{Row}
 use Rattle.bundle_format.proofs.Rows.{Fits, AllFit, none, more, length-table, rows-read}
 use Rattle.bundle_format.proofs.Accepted.{Whole, whole_code}
-use Rattle.bundle_format.proofs.Editions.{kinds-most, known-later, or_right, Good, good-only, stands_if, in_kind_lem}
+use Rattle.bundle_format.proofs.Editions.{kinds_most, known-later, or_right, Good, good_only, stands_if, in_kind_lem}
 
 pub length-tag : (key m : List ℕ) → length (tag_of key m) ≡ 16
 unfolding tag_of
@@ -48,25 +48,25 @@ length-encode key edition ss = simp (length-append, length-untagged, length-tag)
 
 -- the first body, and what comes after it
 module _ (b : List ℕ) (at : ℕ) (s : Setting) (ss : List Setting) (rest : List ℕ) (here : drop at b ≡ bodies (s ∷ ss) ++ rest) where
-  pub body-first : drop at b ≡ s.body ++ (bodies ss ++ rest)
+  pub body_first : drop at b ≡ s.body ++ (bodies ss ++ rest)
   unfolding bodies
-  body-first = here ∙ append_assoc s.body (bodies ss) rest
+  body_first = here ∙ append_assoc s.body (bodies ss) rest
 
-  pub body-here : take (length s.body) (drop at b) ≡ s.body
-  body-here = ap (take (length s.body)) body-first ∙ take-append_seam s.body (bodies ss ++ rest)
+  pub body_here : take (length s.body) (drop at b) ≡ s.body
+  body_here = ap (take (length s.body)) body_first ∙ take-append_seam s.body (bodies ss ++ rest)
 
-  pub body-next : drop (at + length s.body) b ≡ bodies ss ++ rest
-  body-next =
-      sym (drop-drop (length s.body) at b) ∙ ap (drop (length s.body)) body-first ∙ drop-append_seam s.body (bodies ss ++ rest)
+  pub body_next : drop (at + length s.body) b ≡ bodies ss ++ rest
+  body_next =
+      sym (drop-drop (length s.body) at b) ∙ ap (drop (length s.body)) body_first ∙ drop-append_seam s.body (bodies ss ++ rest)
 
-pub settings-back : (b : List ℕ) (at : ℕ) (ss : List Setting) (rest : List ℕ) → drop at b ≡ bodies ss ++ rest → map (setting_of b) (placed at ss) ≡ ss
+pub settings_back : (b : List ℕ) (at : ℕ) (ss : List Setting) (rest : List ℕ) → drop at b ≡ bodies ss ++ rest → map (setting_of b) (placed at ss) ≡ ss
 unfolding placed setting_of
-settings-back b at [] rest here = refl
-settings-back b at (s ∷ ss) rest here =
-    ap₂ ◌∷◌ one (settings-back b (at + length s.body) ss rest (body-next b at s ss rest here))
+settings_back b at [] rest here = refl
+settings_back b at (s ∷ ss) rest here =
+    ap₂ ◌∷◌ one (settings_back b (at + length s.body) ss rest (body_next b at s ss rest here))
   where
     one : setting_of b (row_for at s) ≡ s
-    one = λ i. record { id = s.id; kind = s.kind; must = s.must; body = body-here b at s ss rest here i }
+    one = λ i. record { id = s.id; kind = s.kind; must = s.must; body = body_here b at s ss rest here i }
 
 -- what is told of an id means what the settings say of it
 pub answers_are : (reader id : ℕ) (b : List ℕ) (rs : List Row) → meant b (tell_in reader id rs) ≡ answer_in reader id (map (setting_of b) rs)
@@ -87,7 +87,7 @@ unfolding answer_in held good_from
 all_held reader edition id low [] h e = refl
 all_held reader edition id low (s ∷ ss) h e =
     let p = both (good_setting edition low s) (good_from edition (s.id + 1) ss) e in
-    let g : Good edition low s = good-only edition low s p.0 in
+    let g : Good edition low s = good_only edition low s p.0 in
     ap₂ (λ (k : Bool) (x : Answer). cond (eqb s.id id) (cond k (value s.kind s.body) unknown) x)
     (known-later edition reader s.kind h g.known)
     (all_held reader edition id (s.id + 1) ss h p.1)
@@ -97,7 +97,7 @@ unfolding all_known placed good_from
 all_known_lem reader edition low at [] h e = refl
 all_known_lem reader edition low at (s ∷ ss) h e =
     let p = both (good_setting edition low s) (good_from edition (s.id + 1) ss) e in
-    let g : Good edition low s = good-only edition low s p.0 in
+    let g : Good edition low s = good_only edition low s p.0 in
     together (not (eqb s.must 1) || knows reader s.kind) (all_known reader (placed (at + length s.body) ss))
     (or_right (not (eqb s.must 1)) (knows reader s.kind) (known-later edition reader s.kind h g.known))
     (all_known_lem reader edition (s.id + 1) (at + length s.body) ss h p.1)
@@ -107,10 +107,10 @@ unfolding placed good_from bodies
 all_fit edition low at [] e h = none
 all_fit edition low at (s ∷ ss) e h =
     let p = both (good_setting edition low s) (good_from edition (s.id + 1) ss) e in
-    let g : Good edition low s = good-only edition low s p.0 in
+    let g : Good edition low s = good_only edition low s p.0 in
     let n : length (s.body ++ bodies ss) ≡ length s.body + length (bodies ss) = length-append s.body (bodies ss) in
     let k : s.kind < kinds edition = ltb-true s.kind (kinds edition) g.known in
-    let m : kinds edition ≤ 3 = kinds-most edition in
+    let m : kinds edition ≤ 3 = kinds_most edition in
     let f : Fits (row_for at s) = record { id = g.fits; at = omega arith; len = omega arith; kind = omega arith; must = omega arith } in
     more f (all_fit edition (s.id + 1) (at + length s.body) ss p.1 (omega arith))
 
@@ -120,15 +120,15 @@ unfolding sound_rows placed good_from bodies
 sound-placed reader b low at [] rest here size e = eq-eqb at (end_of b) (omega arith)
 sound-placed reader b low at (s ∷ ss) rest here size e =
     let p = both (good_setting (edition_of b) low s) (good_from (edition_of b) (s.id + 1) ss) e in
-    let g : Good (edition_of b) low s = good-only (edition_of b) low s p.0 in
+    let g : Good (edition_of b) low s = good_only (edition_of b) low s p.0 in
     let n : length (s.body ++ bodies ss) ≡ length s.body + length (bodies ss) = length-append s.body (bodies ss) in
     together
     (in_place (end_of b) low at (row_for at s) && in_kind reader (edition_of b) s.kind (body_at b (row_for at s)))
     (sound_rows reader b (s.id + 1) (at + length s.body) (placed (at + length s.body) ss))
     (together (in_place (end_of b) low at (row_for at s)) (in_kind reader (edition_of b) s.kind (body_at b (row_for at s)))
     (stands_if (end_of b) low at (row_for at s) (record { rises = g.rises; begins = refl; ends = omega arith; flag = g.flag }))
-    (ap (in_kind reader (edition_of b) s.kind) (body-here b at s ss rest here) ∙ in_kind_lem reader (edition_of b) s.kind s.body g.known g.valued))
-    (sound-placed reader b (s.id + 1) (at + length s.body) ss rest (body-next b at s ss rest here) (omega arith) p.1)
+    (ap (in_kind reader (edition_of b) s.kind) (body_here b at s ss rest here) ∙ in_kind_lem reader (edition_of b) s.kind s.body g.known g.valued))
+    (sound-placed reader b (s.id + 1) (at + length s.body) ss rest (body_next b at s ss rest here) (omega arith) p.1)
 
 -- ---- the bundle
 
@@ -137,9 +137,9 @@ pub record Listed (edition : ℕ) (ss : List Setting) : Type 0 where
   pub good : good_from edition 0 ss ≡ true
   pub small : total_of ss ≤ 65536
 
-pub listed-only : (edition : ℕ) (ss : List Setting) → good_list edition ss ≡ true → Listed edition ss
+pub listed_only : (edition : ℕ) (ss : List Setting) → good_list edition ss ≡ true → Listed edition ss
 unfolding good_list
-listed-only edition ss e =
+listed_only edition ss e =
     let t1 : Bool = leb (length ss) 256 in
     let t2 : Bool = good_from edition 0 ss in
     let t3 : Bool = leb (total_of ss) 65536 in
@@ -157,36 +157,36 @@ listed_if edition ss l =
 
 module _ (key : List ℕ) (edition : ℕ) (ss : List Setting) (last : edition < 65536) (good : good_list edition ss ≡ true) where
   list : Listed edition ss
-  list = listed-only edition ss good
+  list = listed_only edition ss good
 
   tag : List ℕ
   tag = tag_of key (untagged edition ss)
 
-  pub edition-back : edition_of (encode key edition ss) ≡ edition
+  pub edition_back : edition_of (encode key edition ss) ≡ edition
   unfolding encode untagged header number_at to_bytes
-  edition-back = from-to 2 edition last
+  edition_back = from_to 2 edition last
 
-  pub count-back : count_of (encode key edition ss) ≡ length ss
+  pub count_back : count_of (encode key edition ss) ≡ length ss
   unfolding encode untagged header number_at to_bytes
-  count-back = let h = list.few in from-to 2 (length ss) (omega arith)
+  count_back = let h = list.few in from_to 2 (length ss) (omega arith)
 
-  pub stated-back : stated_of (encode key edition ss) ≡ total_of ss
+  pub stated_back : stated_of (encode key edition ss) ≡ total_of ss
   unfolding encode untagged header number_at to_bytes
-  stated-back = let h = list.small in from-to 4 (total_of ss) (omega arith)
+  stated_back = let h = list.small in from_to 4 (total_of ss) (omega arith)
 
-  after-header : drop 8 (encode key edition ss) ≡ table_of (placed (first_body (length ss)) ss) ++ (bodies ss ++ tag)
+  after_header : drop 8 (encode key edition ss) ≡ table_of (placed (first_body (length ss)) ss) ++ (bodies ss ++ tag)
   unfolding encode untagged header to_bytes tag
-  after-header = append_assoc (table_of (placed (first_body (length ss)) ss)) (bodies ss) (tag_of key (untagged edition ss))
+  after_header = append_assoc (table_of (placed (first_body (length ss)) ss)) (bodies ss) (tag_of key (untagged edition ss))
 
   pub rows_back : rows_of (encode key edition ss) ≡ placed (first_body (length ss)) ss
   rows_back =
-      ap₂ rows_from (count-back ∙ sym (length-placed (first_body (length ss)) ss)) after-header
+      ap₂ rows_from (count_back ∙ sym (length-placed (first_body (length ss)) ss)) after_header
       ∙ rows-read (placed (first_body (length ss)) ss) (bodies ss ++ tag) (all_fit edition 0 (first_body (length ss)) ss list.good list.small)
 
-  at-bodies : drop (first_body (length ss)) (encode key edition ss) ≡ bodies ss ++ tag
-  at-bodies =
+  at_bodies : drop (first_body (length ss)) (encode key edition ss) ≡ bodies ss ++ tag
+  at_bodies =
       sym (drop-drop (12 * length ss) 8 (encode key edition ss))
-      ∙ ap (drop (12 * length ss)) after-header
+      ∙ ap (drop (12 * length ss)) after_header
       ∙ drop_at (table_of (placed (first_body (length ss)) ss)) (bodies ss ++ tag) (12 * length ss)
       (length-table (placed (first_body (length ss)) ss) ∙ ap (λ (n : ℕ). 12 * n) (length-placed (first_body (length ss)) ss))
 
@@ -194,7 +194,7 @@ module _ (key : List ℕ) (edition : ℕ) (ss : List Setting) (last : edition < 
   pub list_back : settings_of (encode key edition ss) ≡ ss
   list_back =
       ap (map (setting_of (encode key edition ss))) rows_back
-      ∙ settings-back (encode key edition ss) (first_body (length ss)) ss tag at-bodies
+      ∙ settings_back (encode key edition ss) (first_body (length ss)) ss tag at_bodies
 
   -- every reader finds the bundle whole
   module _ (keyed : length key ≡ 16) (first : 1 ≤ edition) (reader : ℕ) where
@@ -212,11 +212,11 @@ module _ (key : List ℕ) (edition : ℕ) (ss : List Setting) (last : edition < 
         let small : total_of ss ≤ 65536 = list.small in
         let few : length ss ≤ 256 = list.few in
         let n : length (encode key edition ss) ≡ total_of ss = length-encode key edition ss in
-        let e : edition_of (encode key edition ss) ≡ edition = edition-back in
-        let c : count_of (encode key edition ss) ≡ length ss = count-back in
+        let e : edition_of (encode key edition ss) ≡ edition = edition_back in
+        let c : count_of (encode key edition ss) ≡ length ss = count_back in
         record {
           keyed = keyed;
-          size = record { least = omega arith; most = omega arith; stated = stated-back ∙ sym n };
+          size = record { least = omega arith; most = omega arith; stated = stated_back ∙ sym n };
           tag = tagged;
           formed =
               record {
@@ -225,7 +225,7 @@ module _ (key : List ℕ) (edition : ℕ) (ss : List Setting) (last : edition < 
                 table = omega arith;
                 rows =
                     ap₂ (λ (k : ℕ) (rs : List Row). sound_rows reader (encode key edition ss) 0 (first_body k) rs) c rows_back
-                    ∙ sound-placed reader (encode key edition ss) 0 (first_body (length ss)) ss tag at-bodies (omega arith) (ap (λ (x : ℕ). good_from x 0 ss) e ∙ list.good);
+                    ∙ sound-placed reader (encode key edition ss) 0 (first_body (length ss)) ss tag at_bodies (omega arith) (ap (λ (x : ℕ). good_from x 0 ss) e ∙ list.good);
               };
         }
 

@@ -49,9 +49,9 @@ pub formed_for_2 : well_formed 2 bytes ≡ true
 unfolding well_formed sound_rows in_place in_kind good_value kinds rows_from row_of number_at from_bytes
 formed_for_2 = refl
 
-pub known-to-1 : all_known 1 (rows_of bytes) ≡ true
+pub known_to_1 : all_known 1 (rows_of bytes) ≡ true
 unfolding all_known kinds rows_from row_of number_at from_bytes
-known-to-1 = refl
+known_to_1 = refl
 
 -- the old node and the new one on the text, and on an id that is not there
 pub text_for_1 : meant bytes (tell_in 1 20 (rows_of bytes)) ≡ unknown
@@ -67,10 +67,10 @@ unfolding meant tell_in tell kinds rows_from row_of number_at from_bytes
 none_for_1 = refl
 
 -- kind 2 in a bundle of edition 1 is malformed for both
-abbrev first-edition : List ℕ
-first-edition = 0 ∷ 1 ∷ 0 ∷ 1 ∷ 0 ∷ 0 ∷ 0 ∷ 36 ∷ 0 ∷ 0 ∷ 0 ∷ 1 ∷ 0 ∷ 0 ∷ 0 ∷ 20 ∷ 0 ∷ 0 ∷ 2 ∷ 0 ∷ replicate 16 0
+abbrev first_edition : List ℕ
+first_edition = 0 ∷ 1 ∷ 0 ∷ 1 ∷ 0 ∷ 0 ∷ 0 ∷ 36 ∷ 0 ∷ 0 ∷ 0 ∷ 1 ∷ 0 ∷ 0 ∷ 0 ∷ 20 ∷ 0 ∷ 0 ∷ 2 ∷ 0 ∷ replicate 16 0
 
-pub text_in_1 : (well_formed 1 first-edition ≡ false) × (well_formed 2 first-edition ≡ false)
+pub text_in_1 : (well_formed 1 first_edition ≡ false) × (well_formed 2 first_edition ≡ false)
 unfolding well_formed sound_rows in_place in_kind good_value kinds rows_from row_of number_at from_bytes
 text_in_1 = (refl, refl)
 

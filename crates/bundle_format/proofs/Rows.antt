@@ -6,7 +6,7 @@ use native.Mathlib.Omega.{arith}
 use lib.ListN.{length, take, drop, length-append, length-drop}
 use lib.Seq.{length-take-le, take-add}
 use Rattle.published.specs.Bytes.{from_bytes, to_bytes, Bytes}
-use Rattle.published.proofs.Reading.{from_bytes-lt, from-to, to-from, bytes_take, bytes_drop}
+use Rattle.published.proofs.Reading.{from_bytes-lt, from_to, to_from, bytes_take, bytes_drop}
 use Rattle.bundle_format.specs.Format.{row_bytes, table_of}
 use Rattle.bundle_format.specs.Reader.{number_at, row_of, rows_from}
 use Rattle.bundle_format.specs.declared.Row.{Row}
@@ -22,11 +22,11 @@ number_lt k at b h l =
     rw (length_part k at b l) at (from_bytes-lt (take k (drop at b)) (bytes_take k (drop at b) (bytes_drop at b h)))
 
 -- read and written
-pub number-back : (k at : ℕ) (b : List ℕ) → Bytes b → at + k ≤ length b → to_bytes k (number_at k at b) ≡ take k (drop at b)
+pub number_back : (k at : ℕ) (b : List ℕ) → Bytes b → at + k ≤ length b → to_bytes k (number_at k at b) ≡ take k (drop at b)
 unfolding number_at
-number-back k at b h l =
+number_back k at b h l =
     ap (λ (n : ℕ). to_bytes n (from_bytes (take k (drop at b)))) (sym (length_part k at b l))
-    ∙ to-from (take k (drop at b)) (bytes_take k (drop at b) (bytes_drop at b h))
+    ∙ to_from (take k (drop at b)) (bytes_take k (drop at b) (bytes_drop at b h))
 
 -- ---- entries
 
@@ -65,23 +65,23 @@ unfolding row_of row_bytes number_at to_bytes
 row_read r rest f =
     λ i.
     record {
-      id = from-to 4 r.id f.id i;
-      at = from-to 4 r.at f.at i;
-      len = from-to 2 r.len f.len i;
-      kind = from-to 1 r.kind f.kind i;
-      must = from-to 1 r.must f.must i;
+      id = from_to 4 r.id f.id i;
+      at = from_to 4 r.at f.at i;
+      len = from_to 2 r.len f.len i;
+      kind = from_to 1 r.kind f.kind i;
+      must = from_to 1 r.must f.must i;
     }
 
-after-row : (r : Row) (rest : List ℕ) → drop 12 (row_bytes r ++ rest) ≡ rest
+after_row : (r : Row) (rest : List ℕ) → drop 12 (row_bytes r ++ rest) ≡ rest
 unfolding row_bytes to_bytes
-after-row r rest = refl
+after_row r rest = refl
 
 pub rows-read : (rs : List Row) (rest : List ℕ) → AllFit rs → rows_from (length rs) (table_of rs ++ rest) ≡ rs
 unfolding rows_from table_of
 rows-read [] rest none = refl
 rows-read (r ∷ rs) rest (more f fs) =
     ap (rows_from (suc (length rs))) (append_assoc (row_bytes r) (table_of rs) rest)
-    ∙ ap₂ ◌∷◌ (row_read r (table_of rs ++ rest) f) (ap (rows_from (length rs)) (after-row r (table_of rs ++ rest)) ∙ rows-read rs rest fs)
+    ∙ ap₂ ◌∷◌ (row_read r (table_of rs ++ rest) f) (ap (rows_from (length rs)) (after_row r (table_of rs ++ rest)) ∙ rows-read rs rest fs)
 
 -- read and written
 pub row_fits : (t : List ℕ) → Bytes t → 12 ≤ length t → Fits (row_of t)
@@ -98,7 +98,7 @@ row_fits t h l =
 pub row_back : (t : List ℕ) → Bytes t → 12 ≤ length t → row_bytes (row_of t) ≡ take 12 t
 unfolding row_of row_bytes
 row_back t h l =
-    ap₂ ◌++◌ (ap₂ ◌++◌ (ap₂ ◌++◌ (ap₂ ◌++◌ (number-back 4 0 t h (omega arith)) (number-back 4 4 t h (omega arith)) ∙ sym (take-add 4 4 t)) (number-back 2 8 t h (omega arith)) ∙ sym (take-add 8 2 t)) (number-back 1 10 t h (omega arith)) ∙ sym (take-add 10 1 t)) (number-back 1 11 t h (omega arith))
+    ap₂ ◌++◌ (ap₂ ◌++◌ (ap₂ ◌++◌ (ap₂ ◌++◌ (number_back 4 0 t h (omega arith)) (number_back 4 4 t h (omega arith)) ∙ sym (take-add 4 4 t)) (number_back 2 8 t h (omega arith)) ∙ sym (take-add 8 2 t)) (number_back 1 10 t h (omega arith)) ∙ sym (take-add 10 1 t)) (number_back 1 11 t h (omega arith))
     ∙ sym (take-add 11 1 t)
 
 pub rows_fit : (n : ℕ) (t : List ℕ) → Bytes t → 12 * n ≤ length t → AllFit (rows_from n t)

@@ -23,14 +23,14 @@ use Rattle.bundle_format.specs.declared.Row.{Row}
 use Rattle.bundle_format.specs.declared.Told.{Told}
 use Rattle.bundle_format.specs.declared.Opened.{Opened}
 use Rattle.bundle_format.proofs.Accepted.{Whole, accepts}
-use Rattle.bundle_format.proofs.Encoded.{listed-only, length-encode, edition-back, list_back, code_is, all_known_lem, all_held, answers_are}
-use Rattle.bundle_format.proofs.Decoded.{is_encoding, is-list}
-use Rattle.bundle_format.proofs.Nodes.{one_value, one_absence, same-told, same_code, earlier-code}
+use Rattle.bundle_format.proofs.Encoded.{listed_only, length-encode, edition_back, list_back, code_is, all_known_lem, all_held, answers_are}
+use Rattle.bundle_format.proofs.Decoded.{is_encoding, is_list}
+use Rattle.bundle_format.proofs.Nodes.{one_value, one_absence, same_told, same_code, earlier-code}
 
 -- ---- one key, edition and list has one encoding, and two lists with one encoding are equal
 
 only_of : (key : List ℕ) (e : ℕ) (ts : List Setting) (b : List ℕ) → e < 65536 → good_list e ts ≡ true → b ≡ encode key e ts → (e ≡ edition_of b) × (ts ≡ settings_of b)
-only_of key e ts b h g same = (sym (edition-back key e ts h g) ∙ ap edition_of (sym same), sym (list_back key e ts h g) ∙ ap settings_of (sym same))
+only_of key e ts b h g same = (sym (edition_back key e ts h g) ∙ ap edition_of (sym same), sym (list_back key e ts h g) ∙ ap settings_of (sym same))
 
 pub one_encoding : (key : List ℕ) (edition : ℕ) (ss : List Setting) → edition < 65536 → good_list edition ss ≡ true → Encodes key edition ss (encode key edition ss)
 one_encoding key edition ss last good =
@@ -40,7 +40,7 @@ one_encoding key edition ss last good =
       only =
           λ e ts h g same.
           let o = only_of key e ts (encode key edition ss) h g same in
-          (o.0 ∙ edition-back key edition ss last good, o.1 ∙ list_back key edition ss last good);
+          (o.0 ∙ edition_back key edition ss last good, o.1 ∙ list_back key edition ss last good);
     }
 
 -- ---- it is read back exactly, by that edition's reader and by every later one
@@ -57,26 +57,26 @@ read_back key edition ss keyed first last good reader h =
     record {
       accepts =
           code_is key edition ss last good keyed first reader
-          ∙ ap (λ (t : Bool). unless t MUST_KNOW DONE) (all_known_lem reader edition 0 (first_body (length ss)) ss h (listed-only edition ss good).good);
-      answers = λ id. answers_of key edition ss last good reader id ∙ all_held reader edition id 0 ss h (listed-only edition ss good).good;
+          ∙ ap (λ (t : Bool). unless t MUST_KNOW DONE) (all_known_lem reader edition 0 (first_body (length ss)) ss h (listed_only edition ss good).good);
+      answers = λ id. answers_of key edition ss last good reader id ∙ all_held reader edition id 0 ss h (listed_only edition ss good).good;
     }
 
 -- ---- what a reader accepts is an encoding
 
 -- whatever its edition
-pub accepted-is : (reader : ℕ) (key b : List ℕ) → Bytes b → read_code reader key b ≡ 0 → b ≡ encode key (edition_of b) (settings_of b)
-accepted-is reader key b bytes e = is_encoding reader key b bytes (accepts reader key b e).0
+pub accepted_is : (reader : ℕ) (key b : List ℕ) → Bytes b → read_code reader key b ≡ 0 → b ≡ encode key (edition_of b) (settings_of b)
+accepted_is reader key b bytes e = is_encoding reader key b bytes (accepts reader key b e).0
 
 -- of the reader's edition or an earlier one: of exactly one list of that edition, which is what the reader answers
 pub accepted_exactly : (reader : ℕ) (key b : List ℕ) → Bytes b → read_code reader key b ≡ 0 → edition_of b ≤ reader
     → Encodes key (edition_of b) (settings_of b) b × Answers reader key (settings_of b) b
 accepted_exactly reader key b bytes e h =
     let w : Whole reader key b = (accepts reader key b e).0 in
-    let good : good_list (edition_of b) (settings_of b) ≡ true = is-list reader key b bytes w h in (
+    let good : good_list (edition_of b) (settings_of b) ≡ true = is_list reader key b bytes w h in (
       record { good = good; bytes = is_encoding reader key b bytes w; only = λ f ts l g same. only_of key f ts b l g same },
       record {
         accepts = e;
-        answers = λ id. answers_are reader id b (rows_of b) ∙ all_held reader (edition_of b) id 0 (settings_of b) h (listed-only (edition_of b) (settings_of b) good).good;
+        answers = λ id. answers_are reader id b (rows_of b) ∙ all_held reader (edition_of b) id 0 (settings_of b) h (listed_only (edition_of b) (settings_of b) good).good;
       },
     )
 
@@ -125,7 +125,7 @@ agree_wholly r r' key b id n n' t t' h h' a a' = (a.is ∙ code ∙ sym a'.is, a
         → if_done (read_code r key b) (tell_in r id (rows_of b)) none ≡ if_done (read_code r' key b) (tell_in r' id (rows_of b)) none
     go true e =
         let w : Whole r key b = (accepts r key b (eqb-true (read_code r key b) 0 e)).0 in
-        ap₂ (λ (m : ℕ) (x : Told). if_done m x none) code (same-told r r' id b 0 (first_body (count_of b)) (rows_of b) h h' w.formed.rows)
+        ap₂ (λ (m : ℕ) (x : Told). if_done m x none) code (same_told r r' id b 0 (first_body (count_of b)) (rows_of b) h h' w.formed.rows)
     go false e =
         let e' : eqb (read_code r' key b) 0 ≡ false = ap (λ (m : ℕ). eqb m 0) (sym code) ∙ e in
         ap (λ (k : Bool). cond k (tell_in r id (rows_of b)) none) e ∙ sym (ap (λ (k : Bool). cond k (tell_in r' id (rows_of b)) none) e')
@@ -220,9 +220,9 @@ pub look_as_ask : (reader : ℕ) (key b : List ℕ) (id n : ℕ) (t : Told) → 
 unfolding looked_up
 look_as_ask reader key b id n t a = after_look (λ r rs. tell_in r id rs) reader key b ∙ sym a.leaves
 
-pub entry-is : (reader : ℕ) (key b : List ℕ) (i : ℕ) → entry_of (opened reader key b) b i ≡ if_done (read_code reader key b) (tell_at reader i (rows_of b)) (bare REFUSED 0)
+pub entry_is : (reader : ℕ) (key b : List ℕ) (i : ℕ) → entry_of (opened reader key b) b i ≡ if_done (read_code reader key b) (tell_at reader i (rows_of b)) (bare REFUSED 0)
 unfolding entry_of
-entry-is reader key b i = after_look (λ r rs. tell_at r i rs) reader key b
+entry_is reader key b i = after_look (λ r rs. tell_at r i rs) reader key b
 
 -- ---- the tag: what is claimed of it is that it is the CMAC of all before it
 
@@ -238,7 +238,7 @@ another_message r r' key b c len not e f same =
     ∙ take-append-drop (end_of c) c)
 
 -- a bundle with one byte changed is refused, or has the right tag of another message
-pub one-byte_changed : (r r' : ℕ) (key b : List ℕ) (i x : ℕ) → i < length b → x ≢ get_or b i 0 → read_code r key b ≡ 0 → read_code r' key (set b i x) ≡ 0
+pub one_byte_changed : (r r' : ℕ) (key b : List ℕ) (i x : ℕ) → i < length b → x ≢ get_or b i 0 → read_code r key b ≡ 0 → read_code r' key (set b i x) ≡ 0
     → take (end_of b) b ≢ take (end_of (set b i x)) (set b i x)
-one-byte_changed r r' key b i x h not e f =
+one_byte_changed r r' key b i x h not e f =
     another_message r r' key b (set b i x) (sym (length-set b i x)) (λ same. not (sym (get_or-set_same b i x 0 h) ∙ ap (λ (l : List ℕ). get_or l i 0) (sym same))) e f

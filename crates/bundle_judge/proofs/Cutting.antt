@@ -11,9 +11,9 @@ use Rattle.bundle_format.specs.Reader.{number_at, row_of, rows_from}
 use Rattle.bundle_format.specs.declared.Row.{Row}
 use Rattle.bundle_judge.specs.Inner.{rows_left}
 
-pub number-one : (at : ℕ) (b : List ℕ) → at + 1 ≤ length b → number_at 1 at b ≡ get_or b at 0
+pub number_one : (at : ℕ) (b : List ℕ) → at + 1 ≤ length b → number_at 1 at b ≡ get_or b at 0
 unfolding number_at from_bytes
-number-one at b h = ap (λ (l : List ℕ). from_bytes (take 1 l)) (drop-cons b at 0 (omega arith)) ∙ plain
+number_one at b h = ap (λ (l : List ℕ). from_bytes (take 1 l)) (drop-cons b at 0 (omega arith)) ∙ plain
   where
     plain : get_or b at 0 * 1 + 0 ≡ get_or b at 0
     plain = omega arith
@@ -22,9 +22,9 @@ number-one at b h = ap (λ (l : List ℕ). from_bytes (take 1 l)) (drop-cons b a
 more : (k at : ℕ) (b : List ℕ) → at + suc k ≤ length b → take (suc k) (drop at b) ≡ get_or b at 0 ∷ take k (drop (at + 1) b)
 more k at b h = ap (take (suc k)) (drop-cons b at 0 (omega arith)) ∙ ap (λ (n : ℕ). get_or b at 0 ∷ take k (drop n b)) (sym (add-one at))
 
-pub number-two : (at : ℕ) (b : List ℕ) → at + 2 ≤ length b → number_at 2 at b ≡ get_or b at 0 * 256 + get_or b (at + 1) 0
+pub number_two : (at : ℕ) (b : List ℕ) → at + 2 ≤ length b → number_at 2 at b ≡ get_or b at 0 * 256 + get_or b (at + 1) 0
 unfolding number_at from_bytes
-number-two at b h =
+number_two at b h =
     ap from_bytes (more 1 at b h ∙ ap (λ (l : List ℕ). get_or b at 0 ∷ l) (more 0 (at + 1) b (omega arith))) ∙ plain
   where
     plain : get_or b at 0 * 256 + (get_or b (at + 1) 0 * 1 + 0) ≡ get_or b at 0 * 256 + get_or b (at + 1) 0
@@ -37,7 +37,7 @@ number-four at b h =
     (more 3 at b h
     ∙ ap (λ (l : List ℕ). x0 ∷ l) (more 2 (at + 1) b (omega arith) ∙ ap (λ (l : List ℕ). x1 ∷ l) (place (more 1 (at + 2) b (omega arith)) ∙ ap (λ (l : List ℕ). x2 ∷ l) (more 0 (at + 2 + 1) b (omega arith)))))
     ∙ plain
-    ∙ sym (ap₂ (λ (m n : ℕ). m * 65536 + n) (number-two at b (omega arith)) (number-two (at + 2) b (omega arith)))
+    ∙ sym (ap₂ (λ (m n : ℕ). m * 65536 + n) (number_two at b (omega arith)) (number_two (at + 2) b (omega arith)))
   where
     x0 : ℕ
     x0 = get_or b at 0
@@ -65,10 +65,10 @@ after : (k j at : ℕ) (b : List ℕ) → number_at k (at + j) b ≡ number_at k
 unfolding number_at
 after k j at b = ap (λ (l : List ℕ). from_bytes (take k l)) (sym (drop-drop j at b))
 
-pub row-there : (at : ℕ) (b : List ℕ) (id place len kind must : ℕ) → id ≡ number_at 4 at b → place ≡ number_at 4 (at + 4) b → len ≡ number_at 2 (at + 8) b
+pub row_there : (at : ℕ) (b : List ℕ) (id place len kind must : ℕ) → id ≡ number_at 4 at b → place ≡ number_at 4 (at + 4) b → len ≡ number_at 2 (at + 8) b
     → kind ≡ number_at 1 (at + 10) b → must ≡ number_at 1 (at + 11) b → ◌≡◌ {A = Row} (record { id = id; at = place; len = len; kind = kind; must = must }) (row_of (drop at b))
 unfolding row_of number_at
-row-there at b id place len kind must e0 e1 e2 e3 e4 =
+row_there at b id place len kind must e0 e1 e2 e3 e4 =
     λ i.
     record {
       id = e0 i;
@@ -92,8 +92,8 @@ abbrev pub Left : {X : Type 0} → (b : List ℕ) (count : ℕ) (whole : X) (f :
 Left b count whole f i = (k : ℕ) → i + k ≡ count → whole ≡ f (rows_left b k i)
 
 module _ {X : Type 0} (b : List ℕ) (count : ℕ) (whole : X) (f : List Row → X) where
-  pub left-start : whole ≡ f (rows_from count (drop 8 b)) → Left b count whole f 0
-  left-start e k h = e ∙ ap (λ (n : ℕ). f (rows_from n (drop 8 b))) all
+  pub left_start : whole ≡ f (rows_from count (drop 8 b)) → Left b count whole f 0
+  left_start e k h = e ∙ ap (λ (n : ℕ). f (rows_from n (drop 8 b))) all
     where
       all : count ≡ k
       all = omega arith
@@ -109,5 +109,5 @@ module _ {X : Type 0} (b : List ℕ) (count : ℕ) (whole : X) (f : List Row →
       left_stop x stop = left (suc (count - (i + 1))) (omega arith) ∙ ap f (rows_more b (count - (i + 1)) i r is) ∙ stop (rows_left b (count - (i + 1)) (i + 1))
 
       -- the entry leaves it to the others
-      pub left-more : (g : List Row → X) → ((rs : List Row) → f (r ∷ rs) ≡ g rs) → Left b count whole g (i + 1)
-      left-more g go k h = left (suc k) (omega arith) ∙ ap f (rows_more b k i r is) ∙ go (rows_left b k (i + 1))
+      pub left_more : (g : List Row → X) → ((rs : List Row) → f (r ∷ rs) ≡ g rs) → Left b count whole g (i + 1)
+      left_more g go k h = left (suc k) (omega arith) ∙ ap f (rows_more b k i r is) ∙ go (rows_left b k (i + 1))

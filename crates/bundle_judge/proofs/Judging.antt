@@ -11,7 +11,7 @@ use Rattle.bits.proofs.Computed.{cond-true, cond-false}
 use Rattle.bundle_format.specs.Format.{knows, first_body}
 use Rattle.bundle_format.specs.Reader.{edition_of, count_of, end_of, row_of, rows_from, body_at, in_place, in_kind, sound_rows, well_formed, all_known}
 use Rattle.bundle_format.specs.declared.Row.{Row}
-use Rattle.bundle_format.proofs.Accepted.{formed-only}
+use Rattle.bundle_format.proofs.Accepted.{formed_only}
 use Rattle.bundle_judge.specs.Inner.{count_in, no_row, row_in}
 
 -- what a test of an entry told, by an edition that is the bundle's
@@ -24,32 +24,32 @@ module _ (reader : ℕ) (b : List ℕ) (low at : ℕ) (r : Row) (rs : List Row) 
   unfolding sound_rows
   sound_more e = ap (λ (t : Bool). t && sound_rows reader b (r.id + 1) (at + r.len) rs) e
 
-  pub sound-not : in_place (end_of b) low at r && in_kind reader (edition_of b) r.kind (body_at b r) ≡ false → sound_rows reader b low at (r ∷ rs) ≡ false
+  pub sound_not : in_place (end_of b) low at r && in_kind reader (edition_of b) r.kind (body_at b r) ≡ false → sound_rows reader b low at (r ∷ rs) ≡ false
   unfolding sound_rows
-  sound-not e = ap (λ (t : Bool). t && sound_rows reader b (r.id + 1) (at + r.len) rs) e
+  sound_not e = ap (λ (t : Bool). t && sound_rows reader b (r.id + 1) (at + r.len) rs) e
 
 module _ (reader : ℕ) (r : Row) (rs : List Row) where
   pub known_more : not (eqb r.must 1) || knows reader r.kind ≡ true → all_known reader (r ∷ rs) ≡ all_known reader rs
   unfolding all_known
   known_more e = ap (λ (t : Bool). t && all_known reader rs) e
 
-  pub known-not : not (eqb r.must 1) || knows reader r.kind ≡ false → all_known reader (r ∷ rs) ≡ false
+  pub known_not : not (eqb r.must 1) || knows reader r.kind ≡ false → all_known reader (r ∷ rs) ≡ false
   unfolding all_known
-  known-not e = ap (λ (t : Bool). t && all_known reader rs) e
+  known_not e = ap (λ (t : Bool). t && all_known reader rs) e
 
 -- the header's numbers, as they were read
-pub formed-by : (reader : ℕ) (b : List ℕ) (edition count : ℕ) → edition ≡ edition_of b → count ≡ count_of b
+pub formed_by : (reader : ℕ) (b : List ℕ) (edition count : ℕ) → edition ≡ edition_of b → count ≡ count_of b
     → well_formed reader b ≡ (leb 1 edition && leb count 256 && leb (first_body count) (end_of b) && sound_rows reader b 0 (first_body count) (rows_from count (drop 8 b)))
 unfolding well_formed
-formed-by reader b edition count e n =
+formed_by reader b edition count e n =
     ap₂ (λ (x y : ℕ). leb 1 x && leb y 256 && leb (first_body y) (end_of b) && sound_rows reader b 0 (first_body y) (rows_from y (drop 8 b))) (sym e) (sym n)
 
 -- no room for a header and a tag
-pub short_not-formed : (reader : ℕ) (b : List ℕ) → length b < 24 → well_formed reader b ≡ false
-short_not-formed reader b h = go (well_formed reader b) refl
+pub short_not_formed : (reader : ℕ) (b : List ℕ) → length b < 24 → well_formed reader b ≡ false
+short_not_formed reader b h = go (well_formed reader b) refl
   where
     go : (t : Bool) → well_formed reader b ≡ t → t ≡ false
-    go true e = absurd (omega (arith, (formed-only reader b e).table))
+    go true e = absurd (omega (arith, (formed_only reader b e).table))
     go false e = refl
 
 -- ---- bytes that are long enough

@@ -25,26 +25,26 @@ use Rattle.bundle_format.proofs.Accepted.{Whole, accepts}
 use Rattle.bundle_judge.specs.Inner.{judged_code}
 
 module _ (reader : ℕ) (r : Row) (rs : List Row) where
-  pub tell-here : (id : ℕ) → r.id ≡ id → tell_in reader id (r ∷ rs) ≡ tell reader r
+  pub tell_here : (id : ℕ) → r.id ≡ id → tell_in reader id (r ∷ rs) ≡ tell reader r
   unfolding tell_in
-  tell-here id e = ap (λ (t : Bool). cond t (tell reader r) (tell_in reader id rs)) (eq-eqb r.id id e)
+  tell_here id e = ap (λ (t : Bool). cond t (tell reader r) (tell_in reader id rs)) (eq-eqb r.id id e)
 
-  pub tell-more : (id : ℕ) → r.id ≢ id → tell_in reader id (r ∷ rs) ≡ tell_in reader id rs
+  pub tell_more : (id : ℕ) → r.id ≢ id → tell_in reader id (r ∷ rs) ≡ tell_in reader id rs
   unfolding tell_in
-  tell-more id ne = ap (λ (t : Bool). cond t (tell reader r) (tell_in reader id rs)) (ne_eqb r.id id ne)
+  tell_more id ne = ap (λ (t : Bool). cond t (tell reader r) (tell_in reader id rs)) (ne_eqb r.id id ne)
 
-pub entry-none : (reader n i : ℕ) (t : List ℕ) → n ≤ i → tell_at reader i (rows_from n t) ≡ bare ABSENT 0
+pub entry_none : (reader n i : ℕ) (t : List ℕ) → n ≤ i → tell_at reader i (rows_from n t) ≡ bare ABSENT 0
 unfolding tell_at rows_from
-entry-none reader zero i t h = refl
-entry-none reader (suc n) zero t h = absurd (not-suc-le-zero h)
-entry-none reader (suc n) (suc i) t h = entry-none reader n i (drop 12 t) (le_of_suc-le-suc h)
+entry_none reader zero i t h = refl
+entry_none reader (suc n) zero t h = absurd (not-suc-le-zero h)
+entry_none reader (suc n) (suc i) t h = entry_none reader n i (drop 12 t) (le_of_suc-le-suc h)
 
-pub entry-there : (reader n i : ℕ) (t : List ℕ) → i < n → tell_at reader i (rows_from n t) ≡ tell reader (row_of (drop (12 * i) t))
+pub entry_there : (reader n i : ℕ) (t : List ℕ) → i < n → tell_at reader i (rows_from n t) ≡ tell reader (row_of (drop (12 * i) t))
 unfolding tell_at rows_from
-entry-there reader zero i t h = absurd (not-suc-le-zero h)
-entry-there reader (suc n) zero t h = refl
-entry-there reader (suc n) (suc i) t h =
-    entry-there reader n i (drop 12 t) (le_of_suc-le-suc h) ∙ ap (λ (l : List ℕ). tell reader (row_of l)) (drop-drop (12 * i) 12 t ∙ ap (λ (k : ℕ). drop k t) twelve)
+entry_there reader zero i t h = absurd (not-suc-le-zero h)
+entry_there reader (suc n) zero t h = refl
+entry_there reader (suc n) (suc i) t h =
+    entry_there reader n i (drop 12 t) (le_of_suc-le-suc h) ∙ ap (λ (l : List ℕ). tell reader (row_of l)) (drop-drop (12 * i) 12 t ∙ ap (λ (k : ℕ). drop k t) twelve)
   where
     twelve : 12 + 12 * i ≡ 12 * suc i
     twelve = omega arith
@@ -74,9 +74,9 @@ tag-told key b end size code says keyed least ends sized c =
     done = ap₂ key_code keyed sixteen
 
 -- a number that comes after the tag
-pub read-after : (reader : ℕ) (key b : List ℕ) (code : ℕ) → length key ≡ 16 → right_size b ≡ true → same (drop (end_of b) b) (tag_of key (take (end_of b) b)) ≡ true → code ≡ judged_code reader b → code ≡ read_code reader key b
+pub read_after : (reader : ℕ) (key b : List ℕ) (code : ℕ) → length key ≡ 16 → right_size b ≡ true → same (drop (end_of b) b) (tag_of key (take (end_of b) b)) ≡ true → code ≡ judged_code reader b → code ≡ read_code reader key b
 unfolding read_code judged_code
-read-after reader key b code k s t e = rw (eq-eqb (length key) 16 k, s, t) e
+read_after reader key b code k s t e = rw (eq-eqb (length key) 16 k, s, t) e
 
 -- a table that is within the bytes
 pub answers_fit : (o : Opened) (b : List ℕ) → answers_for o b ≡ true → first_body o.count ≤ length b

@@ -21,11 +21,11 @@ use Rattle.bundle_format.specs.declared.Told.{Told}
 use Rattle.bundle_format.proofs.Rows.{Fits, AllFit, more, rows_fit}
 use Rattle.bundle_format.proofs.Accepted.{accepts}
 use Rattle.bundle_format.proofs.Editions.{or_else}
-use Rattle.bundle_format.proofs.Decoded.{Sound, sound-only}
+use Rattle.bundle_format.proofs.Decoded.{Sound, sound_only}
 use Rattle.bundle_format.proofs.Entries.{tell-id}
-use Rattle.bundle_format.proofs.Theorems.{entry-is}
-use Rattle.bundle_judge.proofs.Cutting.{number-one}
-use Rattle.bundle_reader.proofs.Steps.{entry-there}
+use Rattle.bundle_format.proofs.Theorems.{entry_is}
+use Rattle.bundle_judge.proofs.Cutting.{number_one}
+use Rattle.bundle_reader.proofs.Steps.{entry_there}
 use Rattle.differ_text.specs.Rendered.{side_text}
 use Rattle.differ_text.proofs.Sides.{value-meant, unknown-meant}
 use Rattle.differ_text.proofs.Accepted.{value_short}
@@ -36,9 +36,9 @@ use Rattle.bundle_text.specs.Seen.{must_word, must_text, setting_line, row_line,
 module _ (reader : ℕ) (key b : List ℕ) (e : read_code reader key b ≡ 0) (i : ℕ) (h : i < count_of b) where
   told : entry_of (opened reader key b) b i ≡ tell reader (row_of (drop (8 + 12 * i) b))
   told =
-      entry-is reader key b i
+      entry_is reader key b i
       ∙ if_done_lem (read_code reader key b) (tell_at reader i (rows_of b)) _ e
-      ∙ entry-there reader (count_of b) i (drop 8 b) h
+      ∙ entry_there reader (count_of b) i (drop 8 b) h
       ∙ ap (λ (l : List ℕ). tell reader (row_of l)) (drop-drop (12 * i) 8 b)
 
   must : get_or b (19 + 12 * i) 0 ≡ (row_of (drop (8 + 12 * i) b)).must
@@ -47,7 +47,7 @@ module _ (reader : ℕ) (key b : List ℕ) (e : read_code reader key b ≡ 0) (i
       let t : first_body (count_of b) ≤ length b = omega (arith, (accepts reader key b e).0.formed.table) in
       ap (λ (n : ℕ). get_or b n 0) place
       ∙ sym (get_or-drop (8 + 12 * i) b 11 0)
-      ∙ sym (number-one 11 (drop (8 + 12 * i) b) (omega (arith, length-drop (8 + 12 * i) b)))
+      ∙ sym (number_one 11 (drop (8 + 12 * i) b) (omega (arith, length-drop (8 + 12 * i) b)))
     where
       place : 19 + 12 * i ≡ 8 + 12 * i + 11
       place = omega arith
@@ -102,7 +102,7 @@ module _ (reader : ℕ) (key b : List ℕ) (bytes : Bytes b) (e : read_code read
   unfolding written_from row_lines rows_from
   from zero i low at t is count sound fits = refl
   from (suc n) i low at t is count sound (more fit fits) =
-      let s : Sound reader b low at (row_of t) (rows_from n (drop 12 t)) = sound-only reader b low at (row_of t) (rows_from n (drop 12 t)) sound in
+      let s : Sound reader b low at (row_of t) (rows_from n (drop 12 t)) = sound_only reader b low at (row_of t) (rows_from n (drop 12 t)) sound in
       ap₂ ◌++◌
       (ap (take 2080) (entry_line_lem reader key b e i (omega arith) ∙ ap (λ (l : List ℕ). row_line reader b (row_of l)) (sym is)) ∙ take_all 2080 (row_line reader b (row_of t)) (row_short reader b bytes low at (row_of t) (rows_from n (drop 12 t)) s fit))
       (from n (i + 1) ((row_of t).id + 1) (at + (row_of t).len) (drop 12 t) (ap (drop 12) is ∙ drop-drop 12 (8 + 12 * i) b ∙ ap (λ (k : ℕ). drop k b) next) (omega arith) s.rest fits)
@@ -120,13 +120,13 @@ module _ (reader : ℕ) (key b : List ℕ) (bytes : Bytes b) (e : read_code read
           let most : 256 ^ length (take 2 (drop 0 b)) ≤ 256 ^ 2 = pow-le-pow_right (lit< tt) {i = length (take 2 (drop 0 b))} {j = 2} (omega (arith, length-take 2 (drop 0 b))) in
           omega arith
 
-  stated-is : stated b ≡ edition_of b
+  stated_is : stated b ≡ edition_of b
   unfolding stated
-  stated-is = ap (λ (t : Bool). cond t 0 (edition_of b)) (le-ltb (length b) 2 (omega (arith, (accepts reader key b e).0.size.least)))
+  stated_is = ap (λ (t : Bool). cond t 0 (edition_of b)) (le-ltb (length b) 2 (omega (arith, (accepts reader key b e).0.size.least)))
 
   -- all that is written is what a node sees of the bundle
   pub whole : reader < 2 ^ 64 → take 2080 (head_line (stated b) reader) ++ written_from (count_of b) 0 (opened reader key b) b ≡ seen_text reader b
   unfolding seen_text
   whole h =
-      ap₂ ◌++◌ (ap (λ (n : ℕ). take 2080 (head_line n reader)) stated-is ∙ take_all 2080 (head_line (edition_of b) reader) (head_short h))
+      ap₂ ◌++◌ (ap (λ (n : ℕ). take 2080 (head_line n reader)) stated_is ∙ take_all 2080 (head_line (edition_of b) reader) (head_short h))
       (from (count_of b) 0 0 (first_body (count_of b)) (drop 8 b) refl (zero-add (count_of b)) (accepts reader key b e).0.formed.rows (rows_fit (count_of b) (drop 8 b) (bytes_drop 8 b bytes) (omega (arith, (accepts reader key b e).0.formed.table, (accepts reader key b e).0.size.least, length-drop 8 b))))

@@ -40,9 +40,9 @@ module _ (rows : List ℕ) (k i at : ℕ) (r : Row) (is : r ≡ lent_row at (dro
   unfolding lent_row
   long = sym (ap (λ (x : Row). x.len) is)
 
-  pub sizes-more : sizes (suc k) (drop (4 * i) rows) ≡ r.len + sizes k (drop (4 * (i + 1)) rows)
+  pub sizes_more : sizes (suc k) (drop (4 * i) rows) ≡ r.len + sizes k (drop (4 * (i + 1)) rows)
   unfolding sizes
-  sizes-more = ap₂ (λ (n : ℕ) (l : List ℕ). n + sizes k l) long next
+  sizes_more = ap₂ (λ (n : ℕ) (l : List ℕ). n + sizes k l) long next
 
   pub rows_more : lent_rows (suc k) at (drop (4 * i) rows) ≡ r ∷ lent_rows k (at + r.len) (drop (4 * (i + 1)) rows)
   unfolding lent_rows
@@ -52,10 +52,10 @@ module _ (rows : List ℕ) (k i at : ℕ) (r : Row) (is : r ≡ lent_row at (dro
   abbrev pub set : List ℕ → Setting
   set body = record { id = r.id; kind = r.kind; must = r.must; body = body }
 
-  pub list-more : (from : ℕ) (pool : List ℕ)
+  pub list_more : (from : ℕ) (pool : List ℕ)
       → list_from (suc k) (drop (4 * i) rows) (drop from pool) ≡ set (take r.len (drop from pool)) ∷ list_from k (drop (4 * (i + 1)) rows) (drop (from + r.len) pool)
   unfolding list_from lent_row
-  list-more from pool =
+  list_more from pool =
       ap₂ ◌∷◌ first
       (ap₂ (λ (l : List ℕ) (n : ℕ). list_from k l (drop n (drop from pool))) next long ∙ ap (list_from k (drop (4 * (i + 1)) rows)) (drop-drop r.len from pool))
     where
@@ -89,13 +89,13 @@ module _ (rows : List ℕ) (n sum : ℕ) where
     pub sums_fit : from + r.len ≤ sum
     sums_fit =
         let e : from + sizes (suc (n - (i + 1))) (drop (4 * i) rows) ≡ sum = s (suc (n - (i + 1))) (omega arith) in
-        let m = sizes-more rows (n - (i + 1)) i at r is in
+        let m = sizes_more rows (n - (i + 1)) i at r is in
         omega arith
 
-    pub sums-more : Sums rows n sum (i + 1) (from + r.len)
-    sums-more k h =
+    pub sums_more : Sums rows n sum (i + 1) (from + r.len)
+    sums_more k h =
         let e : from + sizes (suc k) (drop (4 * i) rows) ≡ sum = s (suc k) (omega arith) in
-        let m = sizes-more rows k i at r is in
+        let m = sizes_more rows k i at r is in
         omega arith
 
 -- the whole answer is that of the settings that are left, whose ids are `low` at least
@@ -119,7 +119,7 @@ module _ (edition : ℕ) (rows pool : List ℕ) (n : ℕ) where
       unfolding good_from
       one k h =
           g (suc k) (omega arith)
-          ∙ ap (good_from edition low) (list-more rows k i at r is from pool)
+          ∙ ap (good_from edition low) (list_more rows k i at r is from pool)
           ∙ ap (λ (t : Bool). t && good_from edition (r.id + 1) (list_from k (drop (4 * (i + 1)) rows) (drop (from + r.len) pool))) (sym told)
 
       pub goods_stop : test ≡ false → whole ≡ false
@@ -136,34 +136,34 @@ length-list zero rows pool = refl
 length-list (suc n) rows pool = ap suc (length-list n (drop 4 rows) (drop (get_or rows 3 0) pool))
 
 module _ (n : ℕ) (rows pool : List ℕ) (fits : get_or rows 3 0 + sizes n (drop 4 rows) ≤ length pool) where
-  pub length-first : length (take (get_or rows 3 0) pool) ≡ get_or rows 3 0
-  length-first = length-take-le (get_or rows 3 0) pool (omega arith)
+  pub length_first : length (take (get_or rows 3 0) pool) ≡ get_or rows 3 0
+  length_first = length-take-le (get_or rows 3 0) pool (omega arith)
 
-  pub fits-rest : sizes n (drop 4 rows) ≤ length (drop (get_or rows 3 0) pool)
-  fits-rest = simp length-drop (omega arith)
+  pub fits_rest : sizes n (drop 4 rows) ≤ length (drop (get_or rows 3 0) pool)
+  fits_rest = simp length-drop (omega arith)
 
 pub list-placed : (n at : ℕ) (rows pool : List ℕ) → sizes n rows ≤ length pool → placed at (list_from n rows pool) ≡ lent_rows n at rows
 unfolding placed list_from lent_rows lent_row sizes
 list-placed zero at rows pool h = refl
 list-placed (suc n) at rows pool h =
     ap₂ ◌∷◌ first
-    (ap (λ (k : ℕ). placed (at + k) (list_from n (drop 4 rows) (drop (get_or rows 3 0) pool))) (length-first n rows pool h)
-    ∙ list-placed n (at + get_or rows 3 0) (drop 4 rows) (drop (get_or rows 3 0) pool) (fits-rest n rows pool h))
+    (ap (λ (k : ℕ). placed (at + k) (list_from n (drop 4 rows) (drop (get_or rows 3 0) pool))) (length_first n rows pool h)
+    ∙ list-placed n (at + get_or rows 3 0) (drop 4 rows) (drop (get_or rows 3 0) pool) (fits_rest n rows pool h))
   where
     first : ◌≡◌ {A = Row} (record { id = get_or rows 0 0; at = at; len = length (take (get_or rows 3 0) pool); kind = get_or rows 1 0; must = get_or rows 2 0 }) (lent_row at rows)
-    first = λ i. record { id = get_or rows 0 0; at = at; len = length-first n rows pool h i; kind = get_or rows 1 0; must = get_or rows 2 0 }
+    first = λ i. record { id = get_or rows 0 0; at = at; len = length_first n rows pool h i; kind = get_or rows 1 0; must = get_or rows 2 0 }
 
 pub list-bodies : (n : ℕ) (rows pool : List ℕ) → sizes n rows ≤ length pool → bodies (list_from n rows pool) ≡ take (sizes n rows) pool
 unfolding bodies list_from sizes
 list-bodies zero rows pool h = refl
 list-bodies (suc n) rows pool h =
-    ap (λ (l : List ℕ). take (get_or rows 3 0) pool ++ l) (list-bodies n (drop 4 rows) (drop (get_or rows 3 0) pool) (fits-rest n rows pool h))
+    ap (λ (l : List ℕ). take (get_or rows 3 0) pool ++ l) (list-bodies n (drop 4 rows) (drop (get_or rows 3 0) pool) (fits_rest n rows pool h))
     ∙ sym (take-add (get_or rows 3 0) (sizes n (drop 4 rows)) pool)
 
 -- a pool that is as long as they say is all their bodies
 module _ (n : ℕ) (rows pool : List ℕ) (all : sizes n rows ≡ length pool) where
-  pub bodies-all : bodies (list_from n rows pool) ≡ pool
-  bodies-all = list-bodies n rows pool (omega arith) ∙ take_all (sizes n rows) pool (omega arith)
+  pub bodies_all : bodies (list_from n rows pool) ≡ pool
+  bodies_all = list-bodies n rows pool (omega arith) ∙ take_all (sizes n rows) pool (omega arith)
 
-  pub total-all : total_of (list_from n rows pool) ≡ 8 + 12 * n + length pool + 16
-  total-all = ap₂ (λ (a b : ℕ). 8 + 12 * a + b + 16) (length-list n rows pool) (ap length bodies-all)
+  pub total_all : total_of (list_from n rows pool) ≡ 8 + 12 * n + length pool + 16
+  total_all = ap₂ (λ (a b : ℕ). 8 + 12 * a + b + 16) (length-list n rows pool) (ap length bodies_all)

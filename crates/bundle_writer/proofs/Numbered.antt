@@ -13,8 +13,8 @@ use Rattle.answers.proofs.Passed.{passed}
 use Rattle.bits.proofs.Truth.{both}
 use Rattle.bundle_format.specs.Format.{good_from, total_of, good_list}
 use Rattle.bundle_format.specs.Writer.{list_from, list_of, sizes, good_rows, write_code}
-use Rattle.bundle_format.proofs.Encoded.{Listed, listed-only}
-use Rattle.bundle_writer.proofs.Lent.{length-list, total-all}
+use Rattle.bundle_format.proofs.Encoded.{Listed, listed_only}
+use Rattle.bundle_writer.proofs.Lent.{length-list, total_all}
 
 module _ (edition : ℕ) (rows pool : List ℕ) (n : ℕ) (is : n ≡ length rows / 4) where
   list : length (list_of rows pool) ≡ n
@@ -30,15 +30,15 @@ module _ (edition : ℕ) (rows pool : List ℕ) (n : ℕ) (is : n ≡ length row
     unfolding good_list
     too_many h = then ∙ rw (list, lt-leb n 256 h) (and-false (eqb (sizes (length rows / 4) rows) (length pool)))
 
-    pub other-size : (s : ℕ) → s ≡ sizes n rows → (s ≡ length pool → ⊥) → good_rows edition rows pool ≡ false
-    other-size s e ne = then ∙ rw (ne_eqb (sizes (length rows / 4) rows) (length pool) (λ h. ne (e ∙ ap (λ (k : ℕ). sizes k rows) is ∙ h)))
+    pub other_size : (s : ℕ) → s ≡ sizes n rows → (s ≡ length pool → ⊥) → good_rows edition rows pool ≡ false
+    other_size s e ne = then ∙ rw (ne_eqb (sizes (length rows / 4) rows) (length pool) (λ h. ne (e ∙ ap (λ (k : ℕ). sizes k rows) is ∙ h)))
 
     module _ (few : n ≤ 256) (all : sizes n rows ≡ length pool) where
       same : sizes (length rows / 4) rows ≡ length pool
       same = ap (λ (k : ℕ). sizes k rows) (sym is) ∙ all
 
       total : total_of (list_of rows pool) ≡ 8 + 12 * n + length pool + 16
-      total = total-all (length rows / 4) rows pool same ∙ ap (λ (k : ℕ). 8 + 12 * k + length pool + 16) (sym is)
+      total = total_all (length rows / 4) rows pool same ∙ ap (λ (k : ℕ). 8 + 12 * k + length pool + 16) (sym is)
 
       pub too_long : 65536 < 8 + 12 * n + length pool + 16 → good_rows edition rows pool ≡ false
       unfolding good_list
@@ -47,9 +47,9 @@ module _ (edition : ℕ) (rows pool : List ℕ) (n : ℕ) (is : n ≡ length row
           ∙ rw (eq-eqb (sizes (length rows / 4) rows) (length pool) same, lt-leb (total_of (list_of rows pool)) 65536 (rw total h))
           (and-false (leb (length (list_of rows pool)) 256 && good_from edition 0 (list_of rows pool)))
 
-      pub settings-left : 8 + 12 * n + length pool + 16 ≤ 65536 → good_rows edition rows pool ≡ good_from edition 0 (list_from n rows pool)
+      pub settings_left : 8 + 12 * n + length pool + 16 ≤ 65536 → good_rows edition rows pool ≡ good_from edition 0 (list_from n rows pool)
       unfolding good_list
-      settings-left h =
+      settings_left h =
           then
           ∙ rw (eq-eqb (sizes (length rows / 4) rows) (length pool) same, le-leb (total_of (list_of rows pool)) 65536 (rw total h), list, le-leb n 256 few)
           (and-true (good_from edition 0 (list_of rows pool)) ∙ ap (λ (k : ℕ). good_from edition 0 (list_from k rows pool)) (sym is))
@@ -67,9 +67,9 @@ unfolding good_rows
 good-rows edition rows pool e =
     let p = both (eqb (length rows % 4) 0 && eqb (sizes (length rows / 4) rows) (length pool)) (good_list edition (list_of rows pool)) e in
     let q = both (eqb (length rows % 4) 0) (eqb (sizes (length rows / 4) rows) (length pool)) p.0 in
-    let l : Listed edition (list_of rows pool) = listed-only edition (list_of rows pool) p.1 in
+    let l : Listed edition (list_of rows pool) = listed_only edition (list_of rows pool) p.1 in
     let all : sizes (length rows / 4) rows ≡ length pool = eqb-true (sizes (length rows / 4) rows) (length pool) q.1 in
-    let total : total_of (list_of rows pool) ≡ 8 + 12 * (length rows / 4) + length pool + 16 = total-all (length rows / 4) rows pool all in
+    let total : total_of (list_of rows pool) ≡ 8 + 12 * (length rows / 4) + length pool + 16 = total_all (length rows / 4) rows pool all in
     let few : length (list_of rows pool) ≤ 256 = l.few in
     let small : total_of (list_of rows pool) ≤ 65536 = l.small in
     record {

@@ -18,7 +18,7 @@ use Rattle.bundle_format.specs.Writer.{list_from, sizes}
 use Rattle.bundle_format.specs.declared.Row.{Row}
 use Rattle.bundle_format.proofs.Rows.{length-row, length-table}
 use Rattle.bundle_writer.specs.Inner.{lent_row, lent_rows}
-use Rattle.bundle_writer.proofs.Lent.{rows_more, length-list, list-placed, bodies-all, total-all}
+use Rattle.bundle_writer.proofs.Lent.{rows_more, length-list, list-placed, bodies_all, total_all}
 
 pub stored : (l bs : List ℕ) → length l ≡ length bs → sets l 0 bs ≡ bs
 stored l bs e =
@@ -99,14 +99,14 @@ module _ (rows : List ℕ) (n : ℕ) (whole : List ℕ) where
 
 -- ---- all before the tag
 
-pub untagged-is : (edition n : ℕ) (rows pool h t p : List ℕ) → sizes n rows ≡ length pool → h ≡ header edition n (8 + 12 * n + length pool + 16) → t ≡ table_of (lent_rows n (8 + 12 * n) rows) → p ≡ pool
+pub untagged_is : (edition n : ℕ) (rows pool h t p : List ℕ) → sizes n rows ≡ length pool → h ≡ header edition n (8 + 12 * n + length pool + 16) → t ≡ table_of (lent_rows n (8 + 12 * n) rows) → p ≡ pool
     → h ++ t ++ p ≡ untagged edition (list_from n rows pool)
 unfolding untagged
-untagged-is edition n rows pool h t p all eh et ep =
+untagged_is edition n rows pool h t p all eh et ep =
     ap₂ ◌++◌
-    (ap₂ ◌++◌ (eh ∙ ap₂ (header edition) (sym (length-list n rows pool)) (sym (total-all n rows pool all)))
+    (ap₂ ◌++◌ (eh ∙ ap₂ (header edition) (sym (length-list n rows pool)) (sym (total_all n rows pool all)))
     (et ∙ ap table_of (sym (ap (λ (m : ℕ). placed (8 + 12 * m) (list_from n rows pool)) (length-list n rows pool) ∙ list-placed n (8 + 12 * n) rows pool (omega arith)))))
-    (ep ∙ sym (bodies-all n rows pool all))
+    (ep ∙ sym (bodies_all n rows pool all))
 
 length-rows : (n at : ℕ) (rows : List ℕ) → length (lent_rows n at rows) ≡ n
 unfolding lent_rows
@@ -135,9 +135,9 @@ pub tag-put : (out tag message : List ℕ) (end : ℕ) → end + 16 ≤ length o
 tag-put out tag message end h len e =
     ap (λ (l : List ℕ). take end out ++ l) (ap₂ ◌++◌ e (Post-is end (end + 16) out (omega arith))) ∙ sym (append_assoc (take end out) message (drop (end + 16) out))
 
-pub tag-made : (key out start new : List ℕ) (end r : ℕ) → length key ≡ 16 → length start ≡ 16 → TagsWhole key (take (end - 0) (drop 0 out)) start r new → new ≡ tag_of key (take end out)
+pub tag_made : (key out start new : List ℕ) (end r : ℕ) → length key ≡ 16 → length start ≡ 16 → TagsWhole key (take (end - 0) (drop 0 out)) start r new → new ≡ tag_of key (take end out)
 unfolding tag_of
-tag-made key out start new end r keyed len t = tagged key (take (end - 0) out) start keyed len t ∙ ap (λ (n : ℕ). cmac (encrypted key) (take n out)) size
+tag_made key out start new end r keyed len t = tagged key (take (end - 0) out) start keyed len t ∙ ap (λ (n : ℕ). cmac (encrypted key) (take n out)) size
   where
     size : end - 0 ≡ end
     size = omega arith

@@ -14,9 +14,9 @@ use Rattle.cmac_parts.specs.Standard.{◌⊕◌, zero_block, block_count, before
 
 -- ---- how many blocks are before the last
 
-pub before-is : (m : List ℕ) → before m ≡ (length m - 1) / 16
+pub before_is : (m : List ℕ) → before m ≡ (length m - 1) / 16
 unfolding block_count
-before-is m = go (length m)
+before_is m = go (length m)
   where
     go : (n : ℕ) → cond (eqb n 0) 1 ((n + 15) / 16) - 1 ≡ (n - 1) / 16
     go zero = refl

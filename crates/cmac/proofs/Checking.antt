@@ -11,7 +11,7 @@ use Rattle.published.specs.Calls.{block_code, key_code}
 use Rattle.published.specs.Gift128.{encrypted}
 use Rattle.cmac_parts.specs.Standard.{cmac}
 use Rattle.cmac.specs.Calls.{same, Checks}
-use Rattle.cmac.proofs.Strings.{same_refl, same-only, false-not-true}
+use Rattle.cmac.proofs.Strings.{same_refl, same_only, false_not_true}
 use Rattle.cmac.proofs.Chaining.{length-encrypted, length-cmac}
 
 -- a yes: the call is done, and the tag is the message's
@@ -23,8 +23,8 @@ yes_only key m tag n c = go (eqb number 0) refl
 
     go : (t : Bool) → eqb number 0 ≡ t → (n ≡ 0) × (tag ≡ cmac (encrypted key) m)
     go true e =
-        (c.is ∙ eqb-true number 0 e, same-only tag (cmac (encrypted key) m) (sym (c.leaves ∙ ap (λ (b : Bool). cond b (same tag (cmac (encrypted key) m)) false) e)))
-    go false e = absurd (false-not-true (sym (c.leaves ∙ ap (λ (b : Bool). cond b (same tag (cmac (encrypted key) m)) false) e)))
+        (c.is ∙ eqb-true number 0 e, same_only tag (cmac (encrypted key) m) (sym (c.leaves ∙ ap (λ (b : Bool). cond b (same tag (cmac (encrypted key) m)) false) e)))
+    go false e = absurd (false_not_true (sym (c.leaves ∙ ap (λ (b : Bool). cond b (same tag (cmac (encrypted key) m)) false) e)))
 
 -- the message's tag, by a key of sixteen bytes: the call is done, and says yes
 pub yes_if : (key m : List ℕ) (n : ℕ) (says : Bool) → length key ≡ 16 → Checks key m (cmac (encrypted key) m) n says → (n ≡ 0) × (says ≡ true)

@@ -21,9 +21,9 @@ pub kept_whole : (m : List ℕ) → length m ≡ 16 → kept m ≡ m
 kept_whole m e = ap (λ (n : ℕ). m ++ replicate (16 - n) 0) e ∙ append-nil m
 
 -- a 1 bit kept after the bytes is the padding
-pub padded-is : (m : List ℕ) → kept (m ++ (128 ∷ [])) ≡ padded m
+pub padded_is : (m : List ℕ) → kept (m ++ (128 ∷ [])) ≡ padded m
 unfolding padded
-padded-is m =
+padded_is m =
     append_assoc m (128 ∷ []) (replicate (16 - length (m ++ (128 ∷ []))) 0)
     ∙ ap (λ (n : ℕ). m ++ (128 ∷ replicate n 0)) (ap (λ (n : ℕ). 16 - n) (length-append m (128 ∷ [])) ∙ less (length m))
   where
@@ -31,10 +31,10 @@ padded-is m =
     less n = omega arith
 
 -- the key and the bytes, each by whether the block is full
-pub last-is : (ciph : List ℕ → List ℕ) (held : List ℕ) (count : ℕ) → length held ≡ 16 → count ≤ 16
+pub last_is : (ciph : List ℕ → List ℕ) (held : List ℕ) (count : ℕ) → length held ≡ 16 → count ≤ 16
     → cond (eqb count 16) (K1 ciph) (K2 ciph) ⊕ cond (eqb count 16) held (padded (take count held)) ≡ last_block ciph (take count held)
 unfolding last_block
-last-is ciph held count len h = go (eqb count 16) refl ∙ ap (λ (n : ℕ). cond (eqb n 16) (K1 ciph ⊕ take count held) (K2 ciph ⊕ padded (take count held))) (sym size)
+last_is ciph held count len h = go (eqb count 16) refl ∙ ap (λ (n : ℕ). cond (eqb n 16) (K1 ciph ⊕ take count held) (K2 ciph ⊕ padded (take count held))) (sym size)
   where
     size : length (take count held) ≡ count
     size = length-take-le count held (omega arith)

@@ -23,11 +23,11 @@ use Rattle.cmac_parts.specs.Orders.{piece_code, tag_code}
 use Rattle.cmac.specs.Calls.{started_by, held_by, kept, fed, tag_of, joined, FedBy, none, more, TagsWhole, Starts, Feeds, TagsState}
 use Rattle.cmac.specs.Inner.{Fills}
 use Rattle.cmac.specs.declared.Mac.{Mac}
-use Rattle.cmac.proofs.Chaining.{before-is, blocks-add, blocks-front, chained_append}
+use Rattle.cmac.proofs.Chaining.{before_is, blocks-add, blocks-front, chained_append}
 
 -- a function of what a call leaves
-pub done-after : {A B : Type 0} (f : A → B) (number : ℕ) (x y : A) → f (if_done number x y) ≡ if_done number (f x) (f y)
-done-after f number x y = go (eqb number 0)
+pub done_after : {A B : Type 0} (f : A → B) (number : ℕ) (x y : A) → f (if_done number x y) ≡ if_done number (f x) (f y)
+done_after f number x y = go (eqb number 0)
   where
     go : (t : Bool) → f (cond t x y) ≡ cond t (f x) (f y)
     go true = refl
@@ -40,16 +40,16 @@ pub to_end : (n : ℕ) (m : List ℕ) → take (length m - n) (drop n m) ≡ dro
 to_end n m = take_all (length m - n) (drop n m) (le_of_eq (length-drop n m))
 
 pub past_short : (m : List ℕ) → length (past (before m) m) ≤ 16
-past_short m = let e : before m ≡ (length m - 1) / 16 = before-is m in rw length-drop (omega arith)
+past_short m = let e : before m ≡ (length m - 1) / 16 = before_is m in rw length-drop (omega arith)
 
 pub past_fits : (m : List ℕ) → 16 * before m ≤ length m
-past_fits m = let e : before m ≡ (length m - 1) / 16 = before-is m in omega arith
+past_fits m = let e : before m ≡ (length m - 1) / 16 = before_is m in omega arith
 
 -- at most a block: nothing is chained
 pub fills_little : (ws c m h : List ℕ) (n : ℕ) → length m ≤ 16 → n ≡ length m → h ≡ kept m → Fills ws c m n c h
 unfolding blocks chained
 fills_little ws c m h n short counts holds =
-    let none : before m ≡ 0 = let e : before m ≡ (length m - 1) / 16 = before-is m in omega arith in
+    let none : before m ≡ 0 = let e : before m ≡ (length m - 1) / 16 = before_is m in omega arith in
     record {
       counts = counts ∙ ap (λ (k : ℕ). length (past k m)) (sym none);
       chains = ap (λ (k : ℕ). chained (encrypted_by ws) c (blocks k m)) (sym none);
@@ -82,8 +82,8 @@ fills_more ws c c' b rest m c'' h n len some first whole f =
   where
     one : before m ≡ suc (before rest)
     one =
-        let e : before m ≡ (length m - 1) / 16 = before-is m in
-        let d : before rest ≡ (length rest - 1) / 16 = before-is rest in
+        let e : before m ≡ (length m - 1) / 16 = before_is m in
+        let d : before rest ≡ (length rest - 1) / 16 = before_is rest in
         let l : length m ≡ length b + length rest = ap length (sym whole) ∙ length-append b rest in
         omega arith
 
@@ -122,19 +122,19 @@ module _ (ciph : List ℕ → List ℕ) (c m q : List ℕ) where
 
   cut : before (m ++ q) ≡ gone + before rest
   cut =
-      before-is (m ++ q) ∙ ap (λ (k : ℕ). (k - 1) / 16) (length-append m q) ∙ parts (length m) (length q) gone (before-is m)
+      before_is (m ++ q) ∙ ap (λ (k : ℕ). (k - 1) / 16) (length-append m q) ∙ parts (length m) (length q) gone (before_is m)
       ∙ ap (λ (k : ℕ). gone + (k - 1) / 16) (sym (length-append (past gone m) q ∙ ap (λ (x : ℕ). x + length q) (length-drop (16 * gone) m)))
-      ∙ ap (λ (k : ℕ). gone + k) (sym (before-is rest))
+      ∙ ap (λ (k : ℕ). gone + k) (sym (before_is rest))
     where
       parts : (i j k : ℕ) → k ≡ (i - 1) / 16 → (i + j - 1) / 16 ≡ k + (i - 16 * k + j - 1) / 16
       parts i j k e = omega arith
 
-  past-front : past gone (m ++ q) ≡ rest
-  past-front = drop-append-le (16 * gone) m q (past_fits m)
+  past_front : past gone (m ++ q) ≡ rest
+  past_front = drop-append-le (16 * gone) m q (past_fits m)
 
-  past-cut : past (before rest) rest ≡ past (before (m ++ q)) (m ++ q)
-  past-cut =
-      ap (past (before rest)) (sym past-front) ∙ drop-drop (16 * before rest) (16 * gone) (m ++ q) ∙ ap (λ (k : ℕ). drop k (m ++ q)) (spread gone (before rest))
+  past_cut : past (before rest) rest ≡ past (before (m ++ q)) (m ++ q)
+  past_cut =
+      ap (past (before rest)) (sym past_front) ∙ drop-drop (16 * before rest) (16 * gone) (m ++ q) ∙ ap (λ (k : ℕ). drop k (m ++ q)) (spread gone (before rest))
       ∙ ap (λ (k : ℕ). past k (m ++ q)) (sym cut)
     where
       spread : (i j : ℕ) → 16 * i + 16 * j ≡ 16 * (i + j)
@@ -143,7 +143,7 @@ module _ (ciph : List ℕ → List ℕ) (c m q : List ℕ) where
   chained-cut : chained ciph (chained ciph c (blocks gone m)) (blocks (before rest) rest) ≡ chained ciph c (blocks (before (m ++ q)) (m ++ q))
   chained-cut =
       sym (chained_append ciph c (blocks gone m) (blocks (before rest) rest))
-      ∙ ap₂ (λ (x y : List (List ℕ)). chained ciph c (x ++ y)) (sym (blocks-front gone m q (past_fits m))) (ap (blocks (before rest)) (sym past-front))
+      ∙ ap₂ (λ (x y : List (List ℕ)). chained ciph c (x ++ y)) (sym (blocks-front gone m q (past_fits m))) (ap (blocks (before rest)) (sym past_front))
       ∙ ap (chained ciph c) (sym (blocks-add gone (before rest) (m ++ q)) ∙ ap (λ (k : ℕ). blocks k (m ++ q)) (sym cut))
 
 -- a state that bytes l were fed to after its chain c
@@ -165,8 +165,8 @@ fed-twice s p q =
     record {
       words = s.words;
       chain = chained-cut (encrypted_by s.words) s.chain (held_by s ++ p) q i;
-      held = kept (past-cut (encrypted_by s.words) s.chain (held_by s ++ p) q i);
-      count = length (past-cut (encrypted_by s.words) s.chain (held_by s ++ p) q i);
+      held = kept (past_cut (encrypted_by s.words) s.chain (held_by s ++ p) q i);
+      count = length (past_cut (encrypted_by s.words) s.chain (held_by s ++ p) q i);
     })
     ∙ ap (filled_with s.words s.chain) (append_assoc (held_by s) p q)
 
@@ -186,8 +186,8 @@ unfolding piece_code
 piece-refused count h e = let b : ◌≡◌ {A = ℕ} 10 0 = sym (ap (λ (t : Bool). unless t BAD_STATE DONE) (lt-leb count 16 h)) ∙ e in omega arith
 
 -- From any state, two pieces are their concatenation: in what they leave, and in their numbers.
-pub two-pieces : (s t u v : Mac) (p q : List ℕ) (i j k : ℕ) → Feeds s p i t → Feeds t q j u → Feeds s (p ++ q) k v → (u ≡ v) × (i ≡ k) × (j ≡ k)
-two-pieces s t u v p q i j k f g w = go (leb s.count 16) refl
+pub two_pieces : (s t u v : Mac) (p q : List ℕ) (i j k : ℕ) → Feeds s p i t → Feeds t q j u → Feeds s (p ++ q) k v → (u ≡ v) × (i ≡ k) × (j ≡ k)
+two_pieces s t u v p q i j k f g w = go (leb s.count 16) refl
   where
     fits : s.count ≤ 16 → (u ≡ v) × (i ≡ k) × (j ≡ k)
     fits h =
@@ -226,44 +226,44 @@ unfolding started_by fed zero_block block_count blocks chained
 nothing-fed ws = refl
 
 -- all that was fed, one piece after another
-fed-on : (s₀ : Mac) (m : List ℕ) {s t : Mac} {ps : List (List ℕ)} → s ≡ fed s₀ m → FedBy s ps t → t ≡ fed s₀ (m ++ joined ps)
+fed_on : (s₀ : Mac) (m : List ℕ) {s t : Mac} {ps : List (List ℕ)} → s ≡ fed s₀ m → FedBy s ps t → t ≡ fed s₀ (m ++ joined ps)
 unfolding joined
-fed-on s₀ m e (none s) = e ∙ ap (fed s₀) (sym (append-nil m))
-fed-on s₀ m e (more s t u p ps n f g) =
-    fed-on s₀ (m ++ p) (feeds_done p (rw e (fed-count s₀ m)) f ∙ ap (λ (x : Mac). fed x p) e ∙ fed-twice s₀ m p) g
+fed_on s₀ m e (none s) = e ∙ ap (fed s₀) (sym (append-nil m))
+fed_on s₀ m e (more s t u p ps n f g) =
+    fed_on s₀ (m ++ p) (feeds_done p (rw e (fed-count s₀ m)) f ∙ ap (λ (x : Mac). fed x p) e ∙ fed-twice s₀ m p) g
     ∙ ap (fed s₀) (append_assoc m p (joined ps))
 
 -- the tag of a state that a whole message was fed to
-tag-of-fed : (ws m : List ℕ) → tag_of (fed (started_by ws) m) ≡ cmac (encrypted_by ws) m
+tag_of_fed : (ws m : List ℕ) → tag_of (fed (started_by ws) m) ≡ cmac (encrypted_by ws) m
 unfolding tag_of fed started_by zero_block cmac
-tag-of-fed ws m =
+tag_of_fed ws m =
     ap (λ (l : List ℕ). chained (encrypted_by ws) (chained (encrypted_by ws) zero_block (blocks (before m) m)) (last_block (encrypted_by ws) l ∷ [])) (held_kept (past (before m) m))
     ∙ sym (chained_append (encrypted_by ws) zero_block (blocks (before m) m) (last_block (encrypted_by ws) (past (before m) m) ∷ []))
 
 -- the two orders agree where the key is good and the state claims no more than it can hold
-same-order : (count key tag : ℕ) → count ≤ 16 → key ≡ 16 → tag_code count tag ≡ key_code key tag
+same_order : (count key tag : ℕ) → count ≤ 16 → key ≡ 16 → tag_code count tag ≡ key_code key tag
 unfolding tag_code key_code
-same-order count key tag h k =
+same_order count key tag h k =
     ap (λ (t : Bool). unless t BAD_STATE (block_code tag)) (le-leb count 16 h) ∙ sym (ap (λ (t : Bool). unless t BAD_KEY_LENGTH (block_code tag)) (eq-eqb key 16 k))
 
 -- Pieces cut anywhere, empty ones too, give what the call for the whole message gives.
 pub any_cutting : (key out : List ℕ) (ps : List (List ℕ)) (s t : Mac) (n r : ℕ) (e : List ℕ) → length key ≡ 16
     → Starts key n s → FedBy s ps t → TagsState t out r e → TagsWhole key (joined ps) out r e
 any_cutting key out ps s t n r e len starts feeds tags =
-    let at : t ≡ fed (started_by (expanded key)) (joined ps) = fed-on (started_by (expanded key)) [] (started key len starts ∙ nothing-fed (expanded key)) feeds in
+    let at : t ≡ fed (started_by (expanded key)) (joined ps) = fed_on (started_by (expanded key)) [] (started key len starts ∙ nothing-fed (expanded key)) feeds in
     let low : t.count ≤ 16 = rw at (fed-count (started_by (expanded key)) (joined ps)) in
     let right : tag_of t ≡ cmac (encrypted key) (joined ps) =
-    ap tag_of at ∙ tag-of-fed (expanded key) (joined ps) ∙ ap (λ (ciph : List ℕ → List ℕ). cmac ciph (joined ps)) (encrypted-key key) in
-    let number : tag_code t.count (length out) ≡ key_code (length key) (length out) = same-order t.count (length key) (length out) low len in
+    ap tag_of at ∙ tag_of_fed (expanded key) (joined ps) ∙ ap (λ (ciph : List ℕ → List ℕ). cmac ciph (joined ps)) (encrypted-key key) in
+    let number : tag_code t.count (length out) ≡ key_code (length key) (length out) = same_order t.count (length key) (length out) low len in
     record {
       is = tags.is ∙ number;
       leaves = tags.leaves ∙ ap₂ (λ (k : ℕ) (l : List ℕ). if_done k l out) number right;
     }
 
 -- and so the whole message in one
-pub in_one-piece : (key m out : List ℕ) (s t : Mac) {n k r : ℕ} {e : List ℕ} → length key ≡ 16 → Starts key n s → Feeds s m k t → TagsState t out r e → TagsWhole key m out r e
+pub in_one_piece : (key m out : List ℕ) (s t : Mac) {n k r : ℕ} {e : List ℕ} → length key ≡ 16 → Starts key n s → Feeds s m k t → TagsState t out r e → TagsWhole key m out r e
 unfolding joined
-in_one-piece key m out s t {n} {k} {r} {e} len starts feeds tags =
+in_one_piece key m out s t {n} {k} {r} {e} len starts feeds tags =
     rw append-nil at (any_cutting key out (m ∷ []) s t n r e len starts (more s t t m [] k feeds (none t)) tags)
 
 -- what the call leaves where the lengths are right

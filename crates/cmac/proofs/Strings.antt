@@ -29,12 +29,12 @@ module _ (from : ℕ) (block bytes : List ℕ) (len : length block ≡ 16) (fits
   front : length (take from block) ≡ from
   front = length-take-le from block (omega arith)
 
-  pub kept-length : length (kept (take from block ++ bytes)) ≡ length block
-  kept-length = simp (length-append, length-replicate, front) (omega arith)
+  pub kept_length : length (kept (take from block ++ bytes)) ≡ length block
+  kept_length = simp (length-append, length-replicate, front) (omega arith)
 
   -- what stands below the place stays
-  pub kept-start : block ≡ written (kept (take from block ++ bytes)) block from
-  kept-start =
+  pub kept_start : block ≡ written (kept (take from block ++ bytes)) block from
+  kept_start =
       sym
       (ap (λ (l : List ℕ). l ++ drop from block)
       (ap (take from) (append_assoc (take from block) bytes (replicate (16 - length (take from block ++ bytes)) 0)) ∙ take_at (take from block) _ from front)
@@ -54,8 +54,8 @@ module _ (from : ℕ) (block bytes : List ℕ) (len : length block ≡ 16) (fits
 
 -- ---- compared
 
-pub false-not-true : false ≡ true → ⊥
-false-not-true e = let z : ◌≡◌ {A = ℕ} 0 1 = cc in omega arith
+pub false_not_true : false ≡ true → ⊥
+false_not_true e = let z : ◌≡◌ {A = ℕ} 0 1 = cc in omega arith
 
 pub same_refl : (xs : List ℕ) → same xs xs ≡ true
 unfolding same
@@ -63,14 +63,14 @@ same_refl [] = refl
 same_refl (x ∷ xs) = together (eqb x x) (same xs xs) (eq-eqb x x refl) (same_refl xs)
 
 -- a yes is a yes to all bytes
-pub same-only : (xs ys : List ℕ) → same xs ys ≡ true → xs ≡ ys
+pub same_only : (xs ys : List ℕ) → same xs ys ≡ true → xs ≡ ys
 unfolding same
-same-only [] [] e = refl
-same-only [] (y ∷ ys) e = absurd (false-not-true e)
-same-only (x ∷ xs) [] e = absurd (false-not-true e)
-same-only (x ∷ xs) (y ∷ ys) e =
+same_only [] [] e = refl
+same_only [] (y ∷ ys) e = absurd (false_not_true e)
+same_only (x ∷ xs) [] e = absurd (false_not_true e)
+same_only (x ∷ xs) (y ∷ ys) e =
     let b : (eqb x y ≡ true) × (same xs ys ≡ true) = both (eqb x y) (same xs ys) e in
-    ap₂ ◌∷◌ (eqb-true x y b.0) (same-only xs ys b.1)
+    ap₂ ◌∷◌ (eqb-true x y b.0) (same_only xs ys b.1)
 
 -- no bit differs exactly if no byte does
 nowhere : (n : ℕ) (xs ys : List ℕ) → ((i : ℕ) → i < n → get_or xs i 0 ≡ get_or ys i 0) → difference n xs ys ≡ 0
@@ -79,15 +79,15 @@ nowhere zero xs ys h = refl
 nowhere (suc n) xs ys h =
     ap₂ bit_or (nowhere n xs ys (λ i l. h i (omega arith))) (ap (λ (x : ℕ). bit_xor x (get_or ys n 0)) (h n (omega arith)) ∙ xor_self (get_or ys n 0))
 
-or-none : (a b : ℕ) → bit_or a b ≡ 0 → (a ≡ 0) × (b ≡ 0)
-or-none a b e =
+or_none : (a b : ℕ) → bit_or a b ≡ 0 → (a ≡ 0) × (b ≡ 0)
+or_none a b e =
     let s : bit_or a b + bit_and a b ≡ a + b = or_add_and a b in
     let l : bit_and a b ≤ a = and_le_l a b in
     let r : bit_and a b ≤ b = and_le_r a b in
     (omega arith, omega arith)
 
-xor-none : (a b : ℕ) → bit_xor a b ≡ 0 → a ≡ b
-xor-none a b e =
+xor_none : (a b : ℕ) → bit_xor a b ≡ 0 → a ≡ b
+xor_none a b e =
     let s : bit_xor a b + bit_and a b * 2 ≡ a + b = xor_add_and a b in
     let l : bit_and a b ≤ a = and_le_l a b in
     let r : bit_and a b ≤ b = and_le_r a b in
@@ -97,9 +97,9 @@ everywhere : (n : ℕ) (xs ys : List ℕ) → difference n xs ys ≡ 0 → (i : 
 unfolding difference
 everywhere zero xs ys e i l = absurd (not-suc-le-zero l)
 everywhere (suc n) xs ys e i l =
-    let p = or-none (difference n xs ys) (bit_xor (get_or xs n 0) (get_or ys n 0)) e in
+    let p = or_none (difference n xs ys) (bit_xor (get_or xs n 0) (get_or ys n 0)) e in
     ⊎_elim
-    (λ here. rw here (xor-none (get_or xs n 0) (get_or ys n 0) p.1))
+    (λ here. rw here (xor_none (get_or xs n 0) (get_or ys n 0) p.1))
     (λ there. everywhere n xs ys p.0 i there)
     (eq-or-lt_of_le (le_of_suc-le-suc l))
 
@@ -113,5 +113,5 @@ told n xs ys lx ly = go (eqb (difference n xs ys) 0) (same xs ys) refl refl
     go : (t s : Bool) → eqb (difference n xs ys) 0 ≡ t → same xs ys ≡ s → t ≡ s
     go true true e f = refl
     go false false e f = refl
-    go true false e f = absurd (false-not-true (sym f ∙ ap (λ (l : List ℕ). same l ys) (alike e) ∙ same_refl ys))
-    go false true e f = absurd (eqb-false _ 0 e (nowhere n xs ys (λ i l. ap (λ (z : List ℕ). get_or z i 0) (same-only xs ys f))))
+    go true false e f = absurd (false_not_true (sym f ∙ ap (λ (l : List ℕ). same l ys) (alike e) ∙ same_refl ys))
+    go false true e f = absurd (eqb-false _ 0 e (nowhere n xs ys (λ i l. ap (λ (z : List ℕ). get_or z i 0) (same_only xs ys f))))

@@ -14,7 +14,7 @@ use borrow.Author.Tests.{eq-eqb}
 use Rattle.bits.specs.Digit.{digit, bit}
 use Rattle.bits.proofs.Computed.{cond-true}
 use Rattle.published.specs.Bytes.{from_bytes, to_bytes, Bytes}
-use Rattle.published.proofs.Reading.{from_bytes-lt, length_to_bytes, to-from, bit-from_bytes}
+use Rattle.published.proofs.Reading.{from_bytes-lt, length_to_bytes, to_from, bit-from_bytes}
 use Rattle.cmac_parts.specs.Standard.{shifted, subkey, R128, first_bit, ◌⊕◌}
 use Rattle.cmac_parts.specs.Inner.{shifted_bytes, subkey_of}
 use Rattle.cmac_parts.proofs.Xored.{length-⊕, get_or_⊕}
@@ -57,10 +57,10 @@ bytes_shifted bs h i =
     let b : get_or bs (suc i) 0 < 256 = h (suc i) in
     rw get_or_shifted_bytes (omega arith)
 
-pub shifted-is : (bs : List ℕ) → length bs ≡ 16 → Bytes bs → shifted_bytes bs ≡ shifted bs
+pub shifted_is : (bs : List ℕ) → length bs ≡ 16 → Bytes bs → shifted_bytes bs ≡ shifted bs
 unfolding shifted
-shifted-is bs len h =
-    sym (to-from (shifted_bytes bs) (bytes_shifted bs h))
+shifted_is bs len h =
+    sym (to_from (shifted_bytes bs) (bytes_shifted bs h))
     ∙ ap₂ to_bytes (length-shifted_bytes bs ∙ len) (cut _ _ _ (rw len at (doubled bs)) (rw (length-shifted_bytes, len) at (from_bytes-lt (shifted_bytes bs) (bytes_shifted bs h))))
   where
     cut : (g t f : ℕ) → g + t * 256 ^ 16 ≡ 2 * f → g < 256 ^ 16 → g ≡ 2 * f % 2 ^ 128
@@ -78,9 +78,9 @@ R-last : get_or R128 15 0 ≡ 135
 unfolding R128
 R-last = refl
 
-R-before : (i : ℕ) → i < 15 → get_or R128 i 0 ≡ 0
+R_before : (i : ℕ) → i < 15 → get_or R128 i 0 ≡ 0
 unfolding R128
-R-before i l = get_or-append (replicate 15 0) (135 ∷ []) 0 i (rw length-replicate l) ∙ get_or-replicate 15 i 0 0 l
+R_before i l = get_or-append (replicate 15 0) (135 ∷ []) 0 i (rw length-replicate l) ∙ get_or-replicate 15 i 0 0 l
 
 -- the first bit stands in byte 0
 first_bit_lem : (x : List ℕ) → length x ≡ 16 → Bytes x → first_bit x ≡ eqb (get_or x 0 0 / 128 % 2) 1
@@ -89,8 +89,8 @@ first_bit_lem x len h =
     bit-from_bytes x h 127 (rw len (lit< tt)) ∙ ap (λ (n : ℕ). bit (get_or x (n - 1 - 15) 0) 7) len
 
 -- R under a block: its last byte alone changes
-under-R : (y : List ℕ) → length y ≡ 16 → set y 15 (bit_xor (get_or y 15 0) 135) ≡ y ⊕ R128
-under-R y len =
+under_R : (y : List ℕ) → length y ≡ 16 → set y 15 (bit_xor (get_or y 15 0) 135) ≡ y ⊕ R128
+under_R y len =
     ext_get_or 0 (set y 15 (bit_xor (get_or y 15 0) 135)) (y ⊕ R128) (length-set y 15 _ ∙ sym (length-⊕ y R128 long))
     (λ i l. at i (rw (length-set, len) at l) ∙ sym (get_or_⊕ y R128 i long))
   where
@@ -101,13 +101,13 @@ under-R y len =
     at i l =
         ⊎_elim
         (λ here. rw here (get_or-set_same y 15 _ 0 (rw len (lit< tt)) ∙ ap (bit_xor (get_or y 15 0)) (sym R-last)))
-        (λ there. get_or-set_other y 15 i _ 0 (λ e. omega arith) ∙ sym (ap (bit_xor (get_or y i 0)) (R-before i there) ∙ xor_zero_r (get_or y i 0)))
+        (λ there. get_or-set_other y 15 i _ 0 (λ e. omega arith) ∙ sym (ap (bit_xor (get_or y i 0)) (R_before i there) ∙ xor_zero_r (get_or y i 0)))
         (eq-or-lt_of_le (le_of_suc-le-suc l))
 
 -- as the code makes a subkey
-pub subkey-is : (x y : List ℕ) → length x ≡ 16 → Bytes x → y ≡ shifted x → set y 15 (bit_xor (get_or y 15 0) (get_or x 0 0 / 128 * 135)) ≡ subkey x
+pub subkey_is : (x y : List ℕ) → length x ≡ 16 → Bytes x → y ≡ shifted x → set y 15 (bit_xor (get_or y 15 0) (get_or x 0 0 / 128 * 135)) ≡ subkey x
 unfolding subkey
-subkey-is x y len h e = go (get_or x 0 0 / 128) small (first_bit_lem x len h)
+subkey_is x y len h e = go (get_or x 0 0 / 128) small (first_bit_lem x len h)
   where
     size : length y ≡ 16
     size = ap length e ∙ length-shifted x
@@ -117,9 +117,9 @@ subkey-is x y len h e = go (get_or x 0 0 / 128) small (first_bit_lem x len h)
 
     go : (q : ℕ) → q < 2 → first_bit x ≡ eqb (q % 2) 1 → set y 15 (bit_xor (get_or y 15 0) (q * 135)) ≡ cond (first_bit x) (shifted x ⊕ R128) (shifted x)
     go zero l b = ap (set y 15) (xor_zero_r (get_or y 15 0)) ∙ set-get_or y 15 0 ∙ e ∙ ap (λ (t : Bool). cond t (shifted x ⊕ R128) (shifted x)) (sym b)
-    go (suc zero) l b = under-R y size ∙ ap (λ (z : List ℕ). z ⊕ R128) e ∙ ap (λ (t : Bool). cond t (shifted x ⊕ R128) (shifted x)) (sym b)
+    go (suc zero) l b = under_R y size ∙ ap (λ (z : List ℕ). z ⊕ R128) e ∙ ap (λ (t : Bool). cond t (shifted x ⊕ R128) (shifted x)) (sym b)
     go (suc (suc q)) l b = absurd (not-suc-le-zero (le_of_suc-le-suc (le_of_suc-le-suc l)))
 
 -- what doubling gives of a block
-pub doubled-is : (x y : List ℕ) → length x ≡ 16 → y ≡ subkey_of x → y ≡ subkey x
-doubled-is x y h e = e ∙ cond-true (eqb (length x) 16) (subkey x) x (eq-eqb (length x) 16 h)
+pub doubled_is : (x y : List ℕ) → length x ≡ 16 → y ≡ subkey_of x → y ≡ subkey x
+doubled_is x y h e = e ∙ cond-true (eqb (length x) 16) (subkey x) x (eq-eqb (length x) 16 h)

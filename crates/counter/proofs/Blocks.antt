@@ -16,9 +16,9 @@ pub length-encrypted : (w block : List ℕ) → length (encrypted_by w block) �
 unfolding encrypted_by
 length-encrypted w block = length_to_bytes 16 _
 
-pub blocks-none : (f : List ℕ → List ℕ) (o : List ℕ) (c : ℕ) → key_blocks f o c 0 ≡ []
+pub blocks_none : (f : List ℕ → List ℕ) (o : List ℕ) (c : ℕ) → key_blocks f o c 0 ≡ []
 unfolding key_blocks
-blocks-none f o c = refl
+blocks_none f o c = refl
 
 -- one more block, at the end
 pub blocks_more : (f : List ℕ → List ℕ) (o : List ℕ) (c k : ℕ) → key_blocks f o c (suc k) ≡ key_blocks f o c k ++ f (counter_block o (c + k))

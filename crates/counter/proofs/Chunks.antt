@@ -37,9 +37,9 @@ module _ (f : List ℕ → List ℕ) (o : List ℕ) (twelve : length o ≡ 12) w
       ap₂ (λ (a b : List ℕ). f a ++ each_of 16 f k b) (take_at (counter_block o c) more 16 (block-length c)) (drop_at (counter_block o c) more 16 (block-length c))
       ∙ ap (λ (l : List ℕ). f (counter_block o c) ++ l) (each_counter k (suc c))
 
-  all-counters : (c k : ℕ) → all_of 16 f (key_blocks (λ (t : List ℕ). t) o c k) ≡ key_blocks f o c k
+  all_counters : (c k : ℕ) → all_of 16 f (key_blocks (λ (t : List ℕ). t) o c k) ≡ key_blocks f o c k
   unfolding all_of
-  all-counters c k =
+  all_counters c k =
       let count : 16 * k / 16 ≡ k = omega arith in
       ap (λ (n : ℕ). each_of 16 f (n / 16) (key_blocks (λ (t : List ℕ). t) o c k)) (counters-length k c)
       ∙ ap (λ (n : ℕ). each_of 16 f n (key_blocks (λ (t : List ℕ). t) o c k)) count ∙ each_counter k c
@@ -66,13 +66,13 @@ blocks-add f o (suc j) k c =
     ∙ ap (λ (d : ℕ). (f (counter_block o c) ++ key_blocks f o (suc c) j) ++ key_blocks f o d k) on
 
 -- n bytes from place a on were made of their counter blocks: those before a + n are
-pub several-more : (f : List ℕ → List ℕ) (o out counts new rest : List ℕ) (c a n : ℕ) → length o ≡ 12 → a % 16 ≡ 0 → n % 16 ≡ 0 → a ≤ length out → length new ≡ n
+pub several_more : (f : List ℕ → List ℕ) (o out counts new rest : List ℕ) (c a n : ℕ) → length o ≡ 12 → a % 16 ≡ 0 → n % 16 ≡ 0 → a ≤ length out → length new ≡ n
     → take a out ≡ key_blocks f o c (a / 16) → counts ≡ key_blocks (λ (t : List ℕ). t) o (c + a / 16) (n / 16) → new ≡ all_blocks f counts
     → take (a + n) (take a out ++ (new ++ rest)) ≡ key_blocks f o c ((a + n) / 16)
-several-more f o out counts new rest c a n twelve ha hn inside len before are made =
+several_more f o out counts new rest c a n twelve ha hn inside len before are made =
     let sum : a / 16 + n / 16 ≡ (a + n) / 16 = omega arith in
     written n a out new rest inside len
-    ∙ ap₂ ◌++◌ before (made ∙ ap (all_blocks f) are ∙ all-counters f o twelve (c + a / 16) (n / 16))
+    ∙ ap₂ ◌++◌ before (made ∙ ap (all_blocks f) are ∙ all_counters f o twelve (c + a / 16) (n / 16))
     ∙ sym (blocks-add f o (a / 16) (n / 16) c)
     ∙ ap (key_blocks f o c) sum
 

@@ -12,7 +12,7 @@ use Rattle.answers.specs.Outcome.{OneOutcome}
 use Rattle.answers.proofs.Outcome.{one_outcome}
 use Rattle.published.specs.Bytes.{from_bytes, to_bytes}
 use Rattle.published.specs.Gift128.{encrypted}
-use Rattle.published.proofs.Reading.{from-to}
+use Rattle.published.proofs.Reading.{from_to}
 use Rattle.key_schedule.specs.Expand.{expanded}
 use Rattle.gift128.specs.Calls.{encrypted_by}
 use Rattle.gift128.proofs.Blocks.{crossed-key}
@@ -23,9 +23,9 @@ use Rattle.counter.specs.Standard.{◌⊕◌, counter_block, key_blocks, counter
 use Rattle.counter.specs.Steps.{zero_block, key_byte, key_bytes, after}
 use Rattle.counter.specs.Calls.{code_of, started_by, Left, fed, Starts, Feeds}
 use Rattle.counter.specs.Pieces.{Accepted}
-use Rattle.counter.proofs.Strings.{length-⊕, ⊕-longer, ⊕-again}
-use Rattle.counter.proofs.Jumping.{mk, length-bytes, skip_bytes, skip_unspent, new-bytes, byte_at}
-use Rattle.counter.proofs.Leaving.{fits-left}
+use Rattle.counter.proofs.Strings.{length-⊕, ⊕-longer, ⊕_again}
+use Rattle.counter.proofs.Jumping.{mk, length-bytes, skip_bytes, skip_unspent, new_bytes_lem, byte_at}
+use Rattle.counter.proofs.Leaving.{fits_left}
 
 -- ---- the standard's counter mode
 
@@ -39,12 +39,12 @@ unfolding started_by
 key-stream key nonce c k h = skip_bytes (expanded key) nonce k c zero_block 0 h ∙ ap (λ (f : List ℕ → List ℕ). key_blocks f nonce c k) (by_key key)
 
 -- a message, whole, from a started stream
-pub whole-message : (key nonce : List ℕ) (c : ℕ) (m : List ℕ) → c < counters → Accepted (started_by (expanded key) nonce c) (length m)
+pub whole_message : (key nonce : List ℕ) (c : ℕ) (m : List ℕ) → c < counters → Accepted (started_by (expanded key) nonce c) (length m)
     → (fed (started_by (expanded key) nonce c) m).bytes ≡ counter_mode (encrypted key) nonce c m
 unfolding started_by fed counter_mode
-whole-message key nonce c m lt e =
+whole_message key nonce c m lt e =
     let p = piece-passed c 0 0 (length m) (length m) e in
-    ap (λ (k : List ℕ). m ⊕ k) (new-bytes (expanded key) nonce (length m) c zero_block 0 (fits-left c 0 (needed 0 (length m)) lt p.2))
+    ap (λ (k : List ℕ). m ⊕ k) (new_bytes_lem (expanded key) nonce (length m) c zero_block 0 (fits_left c 0 (needed 0 (length m)) lt p.2))
     ∙ ⊕-longer m (key_blocks (encrypted_by (expanded key)) nonce c (needed 0 (length m)))
     ∙ ap₂ (λ (f : List ℕ → List ℕ) (q : ℕ). m ⊕ key_blocks f nonce c q) (by_key key) same
   where
@@ -77,7 +77,7 @@ nothing-fed s = refl
 pub again : (s : Stream) (m : List ℕ) → fed s (fed s m).bytes ≡ record { stream = (fed s m).stream; bytes = m }
 unfolding fed
 again s m =
-    λ i. record { stream = after (long i) s; bytes = (ap (λ (n : ℕ). (m ⊕ key_bytes (length m) s) ⊕ key_bytes n s) long ∙ ⊕-again m (key_bytes (length m) s) even) i }
+    λ i. record { stream = after (long i) s; bytes = (ap (λ (n : ℕ). (m ⊕ key_bytes (length m) s) ⊕ key_bytes n s) long ∙ ⊕_again m (key_bytes (length m) s) even) i }
   where
     even : length m ≡ length (key_bytes (length m) s)
     even = sym (length-bytes (length m) s)
@@ -107,9 +107,9 @@ pub never-twice : (nonce : List ℕ) (c m n : ℕ) → c + m / 16 < counters →
 unfolding counter_block
 never-twice nonce c m n hm hn e =
     let same : c + m / 16 ≡ c + n / 16 =
-    sym (from-to 4 (c + m / 16) hm)
+    sym (from_to 4 (c + m / 16) hm)
     ∙ ap from_bytes (sym (drop_at nonce (to_bytes 4 (c + m / 16)) (length nonce) refl) ∙ ap (drop (length nonce)) e ∙ drop_at nonce (to_bytes 4 (c + n / 16)) (length nonce) refl)
-    ∙ from-to 4 (c + n / 16) hn in
+    ∙ from_to 4 (c + n / 16) hn in
     omega arith
 
 -- ---- no second outcome

@@ -17,7 +17,7 @@ use Rattle.counter.specs.Steps.{refilled, ready, used, next, key_bytes, after}
 use Rattle.counter.specs.Calls.{Left, fed}
 use Rattle.counter.specs.Pieces.{Accepted, room, whole, AllAccepted, fed_all}
 use Rattle.counter.proofs.Strings.{split-⊕}
-use Rattle.counter.proofs.Jumping.{after-add, bytes-add, length-bytes}
+use Rattle.counter.proofs.Jumping.{after_add, bytes-add, length-bytes}
 
 -- ---- how many bytes a stream can still give
 
@@ -38,8 +38,8 @@ room-accepted s n u h = rw (le-leb s.unused 15 u, eq-eqb n n refl, le-leb (neede
     fits l g = omega arith
 
 -- a new block takes one of the counters left
-left-next : (c p : ℕ) → 0 < left c p → suc (left (suc c % counters) (cond (eqb (suc c) counters) 1 p)) ≡ left c p
-left-next c p h = go (eqb p 0) refl h
+left_next : (c p : ℕ) → 0 < left c p → suc (left (suc c % counters) (cond (eqb (suc c) counters) 1 p)) ≡ left c p
+left_next c p h = go (eqb p 0) refl h
   where
     on : (t : Bool) → eqb (suc c) counters ≡ t → c < counters → eqb p 0 ≡ true → suc (left (suc c % counters) (cond t 1 p)) ≡ counters - c
     on true e g z = let top : suc c ≡ counters = eqb-true (suc c) counters e in omega arith
@@ -70,7 +70,7 @@ module _ (s : Stream) (u : s.unused ≤ 15) where
       go true e =
           let z : s.unused ≡ 0 = eqb-true s.unused 0 e in
           let some : 0 < left s.counter s.spent = omega arith in
-          let less = left-next s.counter s.spent some in
+          let less = left_next s.counter s.spent some in
           omega arith
       go false e =
           let nz : s.unused ≡ 0 → ⊥ = eqb-false s.unused 0 e in
@@ -99,38 +99,38 @@ joined-accepted s m n e f =
     let r = room_after m s a.0 a.1 in
     room-accepted s (m + n) a.0 (omega (arith, b.1, r.1))
 
-pub two-fed : (s : Stream) (a b : List ℕ) → ◌≡◌ {A = Left} (record { stream = (fed (fed s a).stream b).stream; bytes = (fed s a).bytes ++ (fed (fed s a).stream b).bytes }) (fed s (a ++ b))
+pub two_fed : (s : Stream) (a b : List ℕ) → ◌≡◌ {A = Left} (record { stream = (fed (fed s a).stream b).stream; bytes = (fed s a).bytes ++ (fed (fed s a).stream b).bytes }) (fed s (a ++ b))
 unfolding fed
-two-fed s a b =
+two_fed s a b =
     λ i. record {
-      stream = (sym (after-add (length a) (length b) s) ∙ ap (λ (n : ℕ). after n s) (sym (length-append a b))) i;
+      stream = (sym (after_add (length a) (length b) s) ∙ ap (λ (n : ℕ). after n s) (sym (length-append a b))) i;
       bytes = (sym (split-⊕ a b (key_bytes (length a) s) (key_bytes (length b) (after (length a) s)) (sym (length-bytes (length a) s)))
           ∙ ap (λ (k : List ℕ). (a ++ b) ⊕ k) (sym (bytes-add (length a) (length b) s) ∙ ap (λ (n : ℕ). key_bytes n s) (sym (length-append a b)))) i;
     }
 
 -- ---- any number of pieces
 
-stream-of : (s : Stream) (p : List ℕ) → (fed s p).stream ≡ after (length p) s
+stream_of : (s : Stream) (p : List ℕ) → (fed s p).stream ≡ after (length p) s
 unfolding fed
-stream-of s p = refl
+stream_of s p = refl
 
-pub all-fed : (s : Stream) (p : List ℕ) (ps : List (List ℕ)) → fed_all s p ps ≡ fed s (whole p ps)
+pub all_fed : (s : Stream) (p : List ℕ) (ps : List (List ℕ)) → fed_all s p ps ≡ fed s (whole p ps)
 unfolding fed_all whole
-all-fed s p [] = refl
-all-fed s p (q ∷ ps) =
-    (λ i. record { stream = (all-fed (fed s p).stream q ps i).stream; bytes = (fed s p).bytes ++ (all-fed (fed s p).stream q ps i).bytes })
-    ∙ two-fed s p (whole q ps)
+all_fed s p [] = refl
+all_fed s p (q ∷ ps) =
+    (λ i. record { stream = (all_fed (fed s p).stream q ps i).stream; bytes = (fed s p).bytes ++ (all_fed (fed s p).stream q ps i).bytes })
+    ∙ two_fed s p (whole q ps)
 
 pub cutting : (s : Stream) (p : List ℕ) (ps : List (List ℕ)) → Accepted s (length (whole p ps)) → AllAccepted s p ps
 unfolding whole AllAccepted
 cutting s p [] e = e
 cutting s p (q ∷ ps) e =
     let both = cut-accepted s (length p) (length (whole q ps)) (subst (Accepted s) (length-append p (whole q ps)) e) in
-    (both.0, cutting (fed s p).stream q ps (subst (λ (t : Stream). Accepted t (length (whole q ps))) (sym (stream-of s p)) both.1))
+    (both.0, cutting (fed s p).stream q ps (subst (λ (t : Stream). Accepted t (length (whole q ps))) (sym (stream_of s p)) both.1))
 
 pub joining : (s : Stream) (p : List ℕ) (ps : List (List ℕ)) → AllAccepted s p ps → Accepted s (length (whole p ps))
 unfolding whole AllAccepted
 joining s p [] e = e
 joining s p (q ∷ ps) e =
     subst (Accepted s) (sym (length-append p (whole q ps)))
-    (joined-accepted s (length p) (length (whole q ps)) e.0 (subst (λ (t : Stream). Accepted t (length (whole q ps))) (stream-of s p) (joining (fed s p).stream q ps e.1)))
+    (joined-accepted s (length p) (length (whole q ps)) e.0 (subst (λ (t : Stream). Accepted t (length (whole q ps))) (stream_of s p) (joining (fed s p).stream q ps e.1)))

@@ -20,10 +20,10 @@ use Rattle.counter.proofs.Blocks.{length-encrypted}
 
 -- ---- m bytes, and then n
 
-pub after-add : (m n : ℕ) (s : Stream) → after (m + n) s ≡ after n (after m s)
+pub after_add : (m n : ℕ) (s : Stream) → after (m + n) s ≡ after n (after m s)
 unfolding after
-after-add zero n s = ap (λ (k : ℕ). after k s) (zero-add n)
-after-add (suc m) n s = ap (λ (k : ℕ). after k s) (suc-add m n) ∙ after-add m n (next s)
+after_add zero n s = ap (λ (k : ℕ). after k s) (zero-add n)
+after_add (suc m) n s = ap (λ (k : ℕ). after k s) (suc-add m n) ∙ after_add m n (next s)
 
 pub bytes-add : (m n : ℕ) (s : Stream) → key_bytes (m + n) s ≡ key_bytes m s ++ key_bytes n (after m s)
 unfolding key_bytes after
@@ -36,8 +36,8 @@ length-bytes zero s = refl
 length-bytes (suc n) s = ap suc (length-bytes n (next s))
 
 -- the first n bytes of more
-pub bytes-first : (n m : ℕ) (s : Stream) → key_bytes n s ≡ take n (key_bytes (n + m) s)
-bytes-first n m s = sym (ap (take n) (bytes-add n m s) ∙ take_at (key_bytes n s) (key_bytes m (after n s)) n (length-bytes n s))
+pub bytes_first : (n m : ℕ) (s : Stream) → key_bytes n s ≡ take n (key_bytes (n + m) s)
+bytes_first n m s = sym (ap (take n) (bytes-add n m s) ∙ take_at (key_bytes n s) (key_bytes m (after n s)) n (length-bytes n s))
 
 -- ---- a stream by its parts
 
@@ -92,35 +92,35 @@ module _ (w o : List ℕ) where
       place : 16 - v ≡ suc (16 - suc v)
       place = omega arith
 
-  pub bytes-within : (m c : ℕ) (b : List ℕ) (u p : ℕ) → length b ≡ 16 → m ≤ u → u ≤ 16 → key_bytes m (mk w o c b u p) ≡ take m (drop (16 - u) b)
+  pub bytes_within : (m c : ℕ) (b : List ℕ) (u p : ℕ) → length b ≡ 16 → m ≤ u → u ≤ 16 → key_bytes m (mk w o c b u p) ≡ take m (drop (16 - u) b)
   unfolding key_bytes
-  bytes-within zero c b u p len h l = refl
-  bytes-within (suc m) c b zero p len h l = absurd (not-suc-le-zero h)
-  bytes-within (suc zero) c b (suc v) p len h l = ap (λ (x : ℕ). x ∷ []) (byte_unused c b v p) ∙ one_byte 0 b v len l
-  bytes-within (suc (suc m)) c b (suc zero) p len h l = absurd (not-suc-le-zero (le_of_suc-le-suc h))
-  bytes-within (suc (suc m)) c b (suc (suc v)) p len h l =
-      ap₂ ◌∷◌ (byte_unused c b (suc v) p) (ap (key_bytes (suc m)) (next_more c b v p) ∙ bytes-within (suc m) c b (suc v) p len (le_of_suc-le-suc h) (omega arith))
+  bytes_within zero c b u p len h l = refl
+  bytes_within (suc m) c b zero p len h l = absurd (not-suc-le-zero h)
+  bytes_within (suc zero) c b (suc v) p len h l = ap (λ (x : ℕ). x ∷ []) (byte_unused c b v p) ∙ one_byte 0 b v len l
+  bytes_within (suc (suc m)) c b (suc zero) p len h l = absurd (not-suc-le-zero (le_of_suc-le-suc h))
+  bytes_within (suc (suc m)) c b (suc (suc v)) p len h l =
+      ap₂ ◌∷◌ (byte_unused c b (suc v) p) (ap (key_bytes (suc m)) (next_more c b v p) ∙ bytes_within (suc m) c b (suc v) p len (le_of_suc-le-suc h) (omega arith))
       ∙ one_byte (suc m) b (suc v) len l
 
   -- ---- whole blocks
 
   -- a block is made
-  pub after-new : (m c : ℕ) (b : List ℕ) (p : ℕ) → after (suc m) (mk w o c b 0 p) ≡ after (suc m) (mk w o (suc c % counters) (E c) 16 (spent_after (suc c) p))
+  pub after_new : (m c : ℕ) (b : List ℕ) (p : ℕ) → after (suc m) (mk w o c b 0 p) ≡ after (suc m) (mk w o (suc c % counters) (E c) 16 (spent_after (suc c) p))
   unfolding after next ready refilled
-  after-new m c b p = refl
+  after_new m c b p = refl
 
-  pub bytes-new : (m c : ℕ) (b : List ℕ) (p : ℕ) → key_bytes m (mk w o c b 0 p) ≡ key_bytes m (mk w o (suc c % counters) (E c) 16 (spent_after (suc c) p))
+  pub bytes_new : (m c : ℕ) (b : List ℕ) (p : ℕ) → key_bytes m (mk w o c b 0 p) ≡ key_bytes m (mk w o (suc c % counters) (E c) 16 (spent_after (suc c) p))
   unfolding key_bytes key_byte next ready refilled
-  bytes-new zero c b p = refl
-  bytes-new (suc m) c b p = refl
+  bytes_new zero c b p = refl
+  bytes_new (suc m) c b p = refl
 
   one_block : (c : ℕ) (b : List ℕ) (p : ℕ) → key_bytes 16 (mk w o c b 0 p) ≡ E c
   one_block c b p =
-      bytes-new 16 c b p ∙ bytes-within 16 (suc c % counters) (E c) 16 (spent_after (suc c) p) (length-encrypted w (counter_block o c)) (omega arith) (omega arith)
+      bytes_new 16 c b p ∙ bytes_within 16 (suc c % counters) (E c) 16 (spent_after (suc c) p) (length-encrypted w (counter_block o c)) (omega arith) (omega arith)
       ∙ take_all 16 (E c) (omega (arith, length-encrypted w (counter_block o c)))
 
-  one-after : (c : ℕ) (b : List ℕ) (p : ℕ) → after 16 (mk w o c b 0 p) ≡ mk w o (suc c % counters) zero_block 0 (spent_after (suc c) p)
-  one-after c b p = after-new 15 c b p ∙ within 15 0 (suc c % counters) (E c) 16 (spent_after (suc c) p) refl
+  one_after : (c : ℕ) (b : List ℕ) (p : ℕ) → after 16 (mk w o c b 0 p) ≡ mk w o (suc c % counters) zero_block 0 (spent_after (suc c) p)
+  one_after c b p = after_new 15 c b p ∙ within 15 0 (suc c % counters) (E c) 16 (spent_after (suc c) p) refl
 
   -- while the last counter is not used, the next is one more, and the stream is not spent
   small : (c : ℕ) → c < counters → c % counters ≡ c
@@ -129,29 +129,29 @@ module _ (w o : List ℕ) where
   unspent : (c p : ℕ) → c < counters → spent_after c p ≡ p
   unspent c p h = cond-false (eqb c counters) 1 p (ne_eqb c counters (λ (e : c ≡ counters). omega arith))
 
-  next-blocks : (k c : ℕ) → suc c + k ≤ counters → key_blocks (encrypted_by w) o (suc c % counters) k ≡ key_blocks (encrypted_by w) o (suc c) k
+  next_blocks : (k c : ℕ) → suc c + k ≤ counters → key_blocks (encrypted_by w) o (suc c % counters) k ≡ key_blocks (encrypted_by w) o (suc c) k
   unfolding key_blocks
-  next-blocks zero c h = refl
-  next-blocks (suc k) c h = ap (λ (n : ℕ). key_blocks (encrypted_by w) o n (suc k)) (small (suc c) (omega arith))
+  next_blocks zero c h = refl
+  next_blocks (suc k) c h = ap (λ (n : ℕ). key_blocks (encrypted_by w) o n (suc k)) (small (suc c) (omega arith))
 
   pub skip_bytes : (k c : ℕ) (b : List ℕ) (p : ℕ) → c + k ≤ counters → key_bytes (16 * k) (mk w o c b 0 p) ≡ key_blocks (encrypted_by w) o c k
   unfolding key_blocks key_bytes
   skip_bytes zero c b p h = refl
   skip_bytes (suc k) c b p h =
       ap (λ (n : ℕ). key_bytes n (mk w o c b 0 p)) more ∙ bytes-add 16 (16 * k) (mk w o c b 0 p)
-      ∙ ap₂ ◌++◌ (one_block c b p) (ap (key_bytes (16 * k)) (one-after c b p) ∙ skip_bytes k (suc c % counters) zero_block (spent_after (suc c) p) (omega arith) ∙ next-blocks k c (omega arith))
+      ∙ ap₂ ◌++◌ (one_block c b p) (ap (key_bytes (16 * k)) (one_after c b p) ∙ skip_bytes k (suc c % counters) zero_block (spent_after (suc c) p) (omega arith) ∙ next_blocks k c (omega arith))
     where
       more : 16 * suc k ≡ 16 + 16 * k
       more = omega arith
 
   pub skip_state : (k c : ℕ) (b : List ℕ) (p : ℕ) → c + suc k ≤ counters → after (16 * suc k) (mk w o c b 0 p) ≡ mk w o ((c + suc k) % counters) zero_block 0 (spent_after (c + suc k) p)
-  skip_state zero c b p h = one-after c b p ∙ (λ i. mk w o (one i % counters) zero_block 0 (spent_after (one i) p))
+  skip_state zero c b p h = one_after c b p ∙ (λ i. mk w o (one i % counters) zero_block 0 (spent_after (one i) p))
     where
       one : suc c ≡ c + 1
       one = omega arith
   skip_state (suc k) c b p h =
-      ap (λ (n : ℕ). after n (mk w o c b 0 p)) more ∙ after-add 16 (16 * suc k) (mk w o c b 0 p)
-      ∙ ap (after (16 * suc k)) (one-after c b p ∙ (λ i. mk w o (small (suc c) room i) zero_block 0 (unspent (suc c) p room i)))
+      ap (λ (n : ℕ). after n (mk w o c b 0 p)) more ∙ after_add 16 (16 * suc k) (mk w o c b 0 p)
+      ∙ ap (after (16 * suc k)) (one_after c b p ∙ (λ i. mk w o (small (suc c) room i) zero_block 0 (unspent (suc c) p room i)))
       ∙ skip_state k (suc c) zero_block p (omega arith)
       ∙ (λ i. mk w o (place i % counters) zero_block 0 (spent_after (place i) p))
     where
@@ -178,18 +178,18 @@ module _ (w o : List ℕ) where
 
   -- ---- any number of bytes where none is unused
 
-  pub new-bytes : (d c : ℕ) (b : List ℕ) (p : ℕ) → c + needed 0 d ≤ counters → key_bytes d (mk w o c b 0 p) ≡ new_bytes w o c d
-  new-bytes d c b p h =
-      bytes-first d (16 * needed 0 d - d) (mk w o c b 0 p) ∙ ap (take d) (ap (λ (n : ℕ). key_bytes n (mk w o c b 0 p)) whole ∙ skip_bytes (needed 0 d) c b p h)
+  pub new_bytes_lem : (d c : ℕ) (b : List ℕ) (p : ℕ) → c + needed 0 d ≤ counters → key_bytes d (mk w o c b 0 p) ≡ new_bytes w o c d
+  new_bytes_lem d c b p h =
+      bytes_first d (16 * needed 0 d - d) (mk w o c b 0 p) ∙ ap (take d) (ap (λ (n : ℕ). key_bytes n (mk w o c b 0 p)) whole ∙ skip_bytes (needed 0 d) c b p h)
     where
       whole : d + (16 * needed 0 d - d) ≡ 16 * needed 0 d
       whole = omega arith
 
   -- whole blocks, and the start of one more
-  new-part : (k m c : ℕ) (b : List ℕ) (p : ℕ) → suc m < 16 → c + k < counters
+  new_part : (k m c : ℕ) (b : List ℕ) (p : ℕ) → suc m < 16 → c + k < counters
       → after (16 * k + suc m) (mk w o c b 0 p) ≡ mk w o (suc (c + k) % counters) (E (c + k)) (16 - suc m) (spent_after (suc (c + k)) p)
-  new-part k m c b p l h =
-      after-add (16 * k) (suc m) (mk w o c b 0 p) ∙ ap (after (suc m)) (skip_inside k c b p h).1 ∙ after-new m (c + k) (skip_inside k c b p h).0 p
+  new_part k m c b p l h =
+      after_add (16 * k) (suc m) (mk w o c b 0 p) ∙ ap (after (suc m)) (skip_inside k c b p h).1 ∙ after_new m (c + k) (skip_inside k c b p h).0 p
       ∙ within m (16 - suc m) (suc (c + k) % counters) (E (c + k)) 16 (spent_after (suc (c + k)) p) (omega arith)
       ∙ (λ i. mk w o (suc (c + k) % counters) (cond (some i) zero_block (E (c + k))) (16 - suc m) (spent_after (suc (c + k)) p))
     where
@@ -197,9 +197,9 @@ module _ (w o : List ℕ) where
       some = ne_eqb (16 - suc m) 0 (λ (e : 16 - suc m ≡ 0). omega arith)
 
   -- the byte at a position: whose block it is of, and which
-  byte-new : (c : ℕ) (b : List ℕ) (p : ℕ) → key_byte (mk w o c b 0 p) ≡ get_or (E c) 0 0
+  byte_new : (c : ℕ) (b : List ℕ) (p : ℕ) → key_byte (mk w o c b 0 p) ≡ get_or (E c) 0 0
   unfolding key_byte ready refilled
-  byte-new c b p = refl
+  byte_new c b p = refl
 
   pub byte_at : (n c : ℕ) (b : List ℕ) (p : ℕ) → c + n / 16 < counters → key_byte (after n (mk w o c b 0 p)) ≡ get_or (E (c + n / 16)) (n % 16) 0
   byte_at n c b p h = go (eqb (n % 16) 0) refl
@@ -208,14 +208,14 @@ module _ (w o : List ℕ) where
       go true e =
           let z : n % 16 ≡ 0 = eqb-true (n % 16) 0 e in
           let blocks : n ≡ 16 * (n / 16) = omega arith in
-          ap (λ (m : ℕ). key_byte (after m (mk w o c b 0 p))) blocks ∙ ap key_byte (skip_inside (n / 16) c b p h).1 ∙ byte-new (c + n / 16) (skip_inside (n / 16) c b p h).0 p
+          ap (λ (m : ℕ). key_byte (after m (mk w o c b 0 p))) blocks ∙ ap key_byte (skip_inside (n / 16) c b p h).1 ∙ byte_new (c + n / 16) (skip_inside (n / 16) c b p h).0 p
           ∙ ap (λ (m : ℕ). get_or (E (c + n / 16)) m 0) (sym z)
       go false e =
           let nz : n % 16 ≡ 0 → ⊥ = eqb-false (n % 16) 0 e in
           let parts : n ≡ 16 * (n / 16) + suc (n % 16 - 1) = omega (arith, nz) in
           let rest : 16 - suc (n % 16 - 1) ≡ suc (15 - n % 16) = omega (arith, nz) in
           let place : 16 - suc (15 - n % 16) ≡ n % 16 = omega arith in
-          ap (λ (m : ℕ). key_byte (after m (mk w o c b 0 p))) parts ∙ ap key_byte (new-part (n / 16) (n % 16 - 1) c b p (omega arith) h)
+          ap (λ (m : ℕ). key_byte (after m (mk w o c b 0 p))) parts ∙ ap key_byte (new_part (n / 16) (n % 16 - 1) c b p (omega arith) h)
           ∙ ap (λ (u : ℕ). key_byte (mk w o (suc (c + n / 16) % counters) (E (c + n / 16)) u (spent_after (suc (c + n / 16)) p))) rest
           ∙ byte_unused (suc (c + n / 16) % counters) (E (c + n / 16)) (15 - n % 16) (spent_after (suc (c + n / 16)) p)
           ∙ ap (λ (m : ℕ). get_or (E (c + n / 16)) m 0) place
@@ -241,11 +241,11 @@ module _ (w o : List ℕ) where
         all = take_all u (drop (16 - u) b) (simp length-drop (omega arith))
 
         go : (t : Bool) → leb n u ≡ t → key_bytes n s ≡ cond t (take n (drop (16 - u) b)) (drop (16 - u) b ++ new_bytes w o c (n - u))
-        go true e = bytes-within n c b u p len (leb-true n u e) (omega arith)
+        go true e = bytes_within n c b u p len (leb-true n u e) (omega arith)
         go false e =
             ap (λ (m : ℕ). key_bytes m s) (split (leb-false n u e)) ∙ bytes-add u (n - u) s
-            ∙ ap₂ ◌++◌ (bytes-within u c b u p len (le_refl u) (omega arith) ∙ all)
-            (ap (key_bytes (n - u)) (drained u c b p).1 ∙ new-bytes (n - u) c (drained u c b p).0 p (omega arith))
+            ∙ ap₂ ◌++◌ (bytes_within u c b u p len (le_refl u) (omega arith) ∙ all)
+            (ap (key_bytes (n - u)) (drained u c b p).1 ∙ new_bytes_lem (n - u) c (drained u c b p).0 p (omega arith))
 
     abbrev q : ℕ
     q = needed u n
@@ -274,7 +274,7 @@ module _ (w o : List ℕ) where
     -- past the unused bytes: d new ones, d being no 0
     many : u < n → (t : Bool) → eqb ((n - u) % 16) 0 ≡ t → after n s ≡ landed q (u + 16 * q - n) (cond t b (E (c + (n - u) / 16)))
     many g true e =
-        ap (λ (m : ℕ). after m s) (split g) ∙ after-add u (n - u) s ∙ ap (after (n - u)) (drained u c b p).1
+        ap (λ (m : ℕ). after m s) (split g) ∙ after_add u (n - u) s ∙ ap (after (n - u)) (drained u c b p).1
         ∙ ap (λ (m : ℕ). after m (mk w o c (drained u c b p).0 0 p)) blocks ∙ skip_state (q - 1) c (drained u c b p).0 p (omega (arith, even))
         ∙ (λ i. mk w o (up i % counters) (gone i) (none i) (spent_after (up i) p))
       where
@@ -293,8 +293,8 @@ module _ (w o : List ℕ) where
         gone : zero_block ≡ cond (eqb (u + 16 * q - n) 0) zero_block b
         gone = sym (cond-true (eqb (u + 16 * q - n) 0) zero_block b (eq-eqb (u + 16 * q - n) 0 (sym none)))
     many g false e =
-        ap (λ (m : ℕ). after m s) (split g) ∙ after-add u (n - u) s ∙ ap (after (n - u)) (drained u c b p).1
-        ∙ ap (λ (m : ℕ). after m (mk w o c (drained u c b p).0 0 p)) parts ∙ new-part ((n - u) / 16) ((n - u) % 16 - 1) c (drained u c b p).0 p (omega (arith, odd)) (omega (arith, odd))
+        ap (λ (m : ℕ). after m s) (split g) ∙ after_add u (n - u) s ∙ ap (after (n - u)) (drained u c b p).1
+        ∙ ap (λ (m : ℕ). after m (mk w o c (drained u c b p).0 0 p)) parts ∙ new_part ((n - u) / 16) ((n - u) % 16 - 1) c (drained u c b p).0 p (omega (arith, odd)) (omega (arith, odd))
         ∙ (λ i. mk w o (up i % counters) (stays i) (rest i) (spent_after (up i) p))
       where
         odd : (n - u) % 16 ≡ 0 → ⊥

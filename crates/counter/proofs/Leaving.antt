@@ -65,8 +65,8 @@ module _ (w o : List ℕ) (c : ℕ) (block : List ℕ) where
 
   -- ---- whole blocks, and the start of one more
 
-  whole-and-rest : (n : ℕ) → key_blocks (encrypted_by w) o c (n / 16) ++ take (n % 16) (E w o (c + n / 16)) ≡ new_bytes w o c n
-  whole-and-rest n = go (eqb (n % 16) 0) refl
+  whole_and_rest : (n : ℕ) → key_blocks (encrypted_by w) o c (n / 16) ++ take (n % 16) (E w o (c + n / 16)) ≡ new_bytes w o c n
+  whole_and_rest n = go (eqb (n % 16) 0) refl
     where
       go : (t : Bool) → eqb (n % 16) 0 ≡ t → key_blocks (encrypted_by w) o c (n / 16) ++ take (n % 16) (E w o (c + n / 16)) ≡ new_bytes w o c n
       go true e =
@@ -91,7 +91,7 @@ module _ (w o : List ℕ) (c : ℕ) (block : List ℕ) where
       record {
         keeps = lasts.keeps ∙ ap₂ (λ (m d : ℕ). cond (eqb m 0) block (E w o (c + d))) rest blocks;
         gives = placed out k a fits long l ∙ ap₂ ◌++◌ (ek ∙ ap (key_blocks (encrypted_by w) o c) (ap (λ (m : ℕ). m / 16) (sym long ∙ front_long out k a fits long) ∙ blocks)) (lasts.gives ∙ ap₂ (λ (m d : ℕ). take m (E w o (c + d))) rest blocks)
-            ∙ whole-and-rest (length out);
+            ∙ whole_and_rest (length out);
       }
     where
       a : ℕ
@@ -111,10 +111,10 @@ module _ (w o : List ℕ) (c : ℕ) (block : List ℕ) where
 
   -- ---- after the unused bytes
 
-  pub more-is : (u : ℕ) (out k b l : List ℕ) (fits : u ≤ length out) → u ≤ 15 → length block ≡ 16 → (long : length k ≡ length (take (u - 0) out)) → k ≡ take (16 - (16 - u)) (drop (16 - u) block)
+  pub more_is : (u : ℕ) (out k b l : List ℕ) (fits : u ≤ length out) → u ≤ 15 → length block ≡ 16 → (long : length k ≡ length (take (u - 0) out)) → k ≡ take (16 - (16 - u)) (drop (16 - u) block)
       → NewBytes w o c block (length (take (length (joined out k u) - u) (drop u (joined out k u)))) b l
       → MoreBytes w o c u block (length out) b (put_mid u (length (joined out k u) - u) (joined out k u) l)
-  more-is u out k b l fits h len long ek news =
+  more_is u out k b l fits h len long ek news =
       record {
         keeps = news.keeps ∙ ap (new_block w o c block) (part-long out k u fits long);
         gives = placed out k u fits long l ∙ ap₂ ◌++◌ (ek ∙ take_all (16 - (16 - u)) (drop (16 - u) block) (simp length-drop (omega arith))) (news.gives ∙ ap (new_bytes w o c) (part-long out k u fits long));
@@ -143,32 +143,32 @@ module _ (w o : List ℕ) (c : ℕ) (block : List ℕ) where
 -- ---- a piece
 
 -- the counters left are those up to the last
-pub fits-left : (c p q : ℕ) → c < counters → q ≤ left c p → c + q ≤ counters
-fits-left c p q h l = go (eqb p 0) l
+pub fits_left : (c p q : ℕ) → c < counters → q ≤ left c p → c + q ≤ counters
+fits_left c p q h l = go (eqb p 0) l
   where
     go : (t : Bool) → q ≤ cond t (counters - c) 0 → c + q ≤ counters
     go true g = omega arith
     go false g = omega arith
 
-pub fed-none : (s : Stream) (input output : List ℕ) → length input ≡ 0 → length output ≡ length input → ◌≡◌ {A = Left} (record { stream = s; bytes = output }) (fed s input)
+pub fed_none : (s : Stream) (input output : List ℕ) → length input ≡ 0 → length output ≡ length input → ◌≡◌ {A = Left} (record { stream = s; bytes = output }) (fed s input)
 unfolding fed after ◌⊕◌
-fed-none s [] output e len = λ i. record { stream = s; bytes = empty output len i }
-fed-none s (x ∷ input) output e len = absurd (suc-ne-zero (length input) e)
+fed_none s [] output e len = λ i. record { stream = s; bytes = empty output len i }
+fed_none s (x ∷ input) output e len = absurd (suc-ne-zero (length input) e)
 
-pub fed-is : (s : Stream) (input b key bytes : List ℕ) (to : Place) (last : List ℕ) → 0 < length input → s.unused ≤ 15 → length s.block ≡ 16 → s.counter < counters
+pub fed_is : (s : Stream) (input b key bytes : List ℕ) (to : Place) (last : List ℕ) → 0 < length input → s.unused ≤ 15 → length s.block ≡ 16 → s.counter < counters
     → needed s.unused (length input) ≤ left s.counter s.spent
     → (n : ℕ) → n ≡ length input → KeyBytes s.words s.nonce s.counter s.unused s.block n b key → bytes ≡ input ⊕ key
     → to ≡ moved (record { counter = s.counter; unused = s.unused; spent = s.spent }) (length input) → last ≡ cond (eqb to.unused 0) zero_block b
     → ◌≡◌ {A = Left} (record { stream = record { words = s.words; nonce = s.nonce; counter = to.counter; block = last; unused = to.unused; spent = to.spent }; bytes = bytes }) (fed s input)
 unfolding fed moved
-fed-is s input b key bytes to last pos h len lt l n same filled mixed moves keeps =
+fed_is s input b key bytes to last pos h len lt l n same filled mixed moves keeps =
     λ i. record { stream = state i; bytes = (mixed ∙ ap (λ (k : List ℕ). input ⊕ k) (made.gives ∙ sym (jump_bytes s.words s.nonce (length input) s.counter s.block s.unused s.spent h fits len))) i }
   where
     made : KeyBytes s.words s.nonce s.counter s.unused s.block (length input) b key
     made = subst (λ (m : ℕ). KeyBytes s.words s.nonce s.counter s.unused s.block m b key) same filled
 
     fits : s.counter + needed s.unused (length input) ≤ counters
-    fits = fits-left s.counter s.spent (needed s.unused (length input)) lt l
+    fits = fits_left s.counter s.spent (needed s.unused (length input)) lt l
 
     state : record { words = s.words; nonce = s.nonce; counter = to.counter; block = last; unused = to.unused; spent = to.spent } ≡ after (length input) s
     state =

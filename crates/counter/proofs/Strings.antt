@@ -54,8 +54,8 @@ xor-twice a b =
     bit_ext (a + b) (bit_xor (bit_xor a b) b) a (xor_lt (a + b) (bit_xor a b) b (xor_lt (a + b) a b ha hb) hb) ha
     (λ i h. bit-xor (bit_xor a b) b i ∙ ap (λ (x : Bool). x xor bit b i) (bit-xor a b i) ∙ ⊕-twice (bit a i) (bit b i))
 
-pub ⊕-again : (xs ys : List ℕ) → length xs ≡ length ys → (xs ⊕ ys) ⊕ ys ≡ xs
+pub ⊕_again : (xs ys : List ℕ) → length xs ≡ length ys → (xs ⊕ ys) ⊕ ys ≡ xs
 unfolding ◌⊕◌
-⊕-again [] ys e = refl
-⊕-again (x ∷ xs) [] e = sym (absurd (not-suc-le-zero (le_of_eq e)))
-⊕-again (x ∷ xs) (y ∷ ys) e = ap₂ ◌∷◌ (xor-twice x y) (⊕-again xs ys (suc_inj e))
+⊕_again [] ys e = refl
+⊕_again (x ∷ xs) [] e = sym (absurd (not-suc-le-zero (le_of_eq e)))
+⊕_again (x ∷ xs) (y ∷ ys) e = ap₂ ◌∷◌ (xor-twice x y) (⊕_again xs ys (suc_inj e))

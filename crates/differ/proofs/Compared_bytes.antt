@@ -10,13 +10,13 @@ use lib.ListN.{length, drop, get_or, drop_of_length-le}
 use lib.Seq.{drop-cons}
 use borrow.Author.Tests.{eq-eqb, ne_eqb}
 use Rattle.cmac.specs.Calls.{same}
-use Rattle.cmac.proofs.Strings.{same-only}
+use Rattle.cmac.proofs.Strings.{same_only}
 
 pub other_length : (x y : List ℕ) → length x ≢ length y → same x y ≡ false
 other_length x y ne = go (same x y) refl
   where
     go : (t : Bool) → same x y ≡ t → t ≡ false
-    go true e = absurd (ne (ap length (same-only x y e)))
+    go true e = absurd (ne (ap length (same_only x y e)))
     go false e = refl
 
 module _ (x y : List ℕ) (i : ℕ) (h : i < length x) (k : i < length y) where
@@ -33,6 +33,6 @@ module _ (x y : List ℕ) (i : ℕ) (h : i < length x) (k : i < length y) where
       ∙ ap (λ (t : Bool). t && same (drop (suc i) x) (drop (suc i) y)) (eq-eqb (get_or x i 0) (get_or y i 0) e)
       ∙ ap (λ (n : ℕ). same (drop n x) (drop n y)) (sym (add-one i))
 
-pub no_byte-left : (x y : List ℕ) (i : ℕ) → length x ≤ i → length y ≤ i → same (drop i x) (drop i y) ≡ true
+pub no_byte_left : (x y : List ℕ) (i : ℕ) → length x ≤ i → length y ≤ i → same (drop i x) (drop i y) ≡ true
 unfolding same
-no_byte-left x y i h k = ap₂ same (drop_of_length-le x {i = i} h) (drop_of_length-le y {i = i} k)
+no_byte_left x y i h k = ap₂ same (drop_of_length-le x {i = i} h) (drop_of_length-le y {i = i} k)

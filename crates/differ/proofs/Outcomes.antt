@@ -31,9 +31,9 @@ module _ (key b : List ℕ) (o : Opened) (is : o ≡ opened 2 key b) where
   looked z = record { key = key; is = is; done = sym code-told ∙ z }
 
 module _ (key b c : List ℕ) where
-  pub first-refused : read_code 2 key b ≢ 0 → listed key b c ≡ []
+  pub first_refused : read_code 2 key b ≢ 0 → listed key b c ≡ []
   unfolding listed
-  first-refused ne = if_refused (read_code 2 key b) (if_done (read_code 2 key c) (lines_from ids 0 b c) []) [] ne
+  first_refused ne = if_refused (read_code 2 key b) (if_done (read_code 2 key c) (lines_from ids 0 b c) []) [] ne
 
   pub second-refused : read_code 2 key c ≢ 0 → listed key b c ≡ []
   unfolding listed
@@ -43,9 +43,9 @@ module _ (key b c : List ℕ) where
       go true = if_refused (read_code 2 key c) (lines_from ids 0 b c) [] ne
       go false = refl
 
-  pub both-accepted : read_code 2 key b ≡ 0 → read_code 2 key c ≡ 0 → listed key b c ≡ lines_from ids 0 b c
+  pub both_accepted : read_code 2 key b ≡ 0 → read_code 2 key c ≡ 0 → listed key b c ≡ lines_from ids 0 b c
   unfolding listed
-  both-accepted e f =
+  both_accepted e f =
       if_done_lem (read_code 2 key b) (if_done (read_code 2 key c) (lines_from ids 0 b c) []) [] e ∙ if_done_lem (read_code 2 key c) (lines_from ids 0 b c) [] f
 
   module _ (rows : List ℕ) (f s : ℕ) (first : f ≡ read_code 2 key b) (second : s ≡ read_code 2 key c) where
@@ -59,7 +59,7 @@ module _ (key b c : List ℕ) where
           is = number;
           first = first;
           second = second;
-          counts = sym (ap length (first-refused (λ e. ne (first ∙ e))));
+          counts = sym (ap length (first_refused (λ e. ne (first ∙ e))));
           leaves = kept (λ e. ne (number ∙ e));
         }
       where
@@ -92,14 +92,14 @@ module _ (key b c : List ℕ) where
 
       module _ (y : s ≡ 0) (n : ℕ) (counted : n ≡ length (lines_from ids 0 b c)) where
         both : listed key b c ≡ lines_from ids 0 b c
-        both = both-accepted accepted (sym second ∙ y)
+        both = both_accepted accepted (sym second ∙ y)
 
         counts : n ≡ length (listed key b c)
         counts = counted ∙ sym (ap length both)
 
-        by-room : (t : Bool) → leb (9 * n) (length rows) ≡ t → compare_code key b c (length rows) ≡ unless t SHORT_OUTPUT DONE
+        by_room : (t : Bool) → leb (9 * n) (length rows) ≡ t → compare_code key b c (length rows) ≡ unless t SHORT_OUTPUT DONE
         unfolding compare_code
-        by-room t e =
+        by_room t e =
             ap₂ (λ (x y : Bool). unless x (read_code 2 key b) (unless y (read_code 2 key c) (unless (leb (9 * length (listed key b c)) (length rows)) SHORT_OUTPUT DONE))) (eq-eqb (read_code 2 key b) 0 accepted) (eq-eqb (read_code 2 key c) 0 (sym second ∙ y))
             ∙ ap (λ (x : Bool). unless x SHORT_OUTPUT DONE) (ap (λ (m : ℕ). leb (9 * m) (length rows)) (sym counts) ∙ e)
 
@@ -114,7 +114,7 @@ module _ (key b c : List ℕ) where
             }
           where
             number : compare_code key b c (length rows) ≡ 25
-            number = by-room false (lt-leb (9 * n) (length rows) h)
+            number = by_room false (lt-leb (9 * n) (length rows) h)
 
             never : ◌≡◌ {A = ℕ} 25 0 → ⊥
             never e = omega arith
@@ -133,4 +133,4 @@ module _ (key b c : List ℕ) where
             }
           where
             number : compare_code key b c (length rows) ≡ 0
-            number = by-room true (le-leb (9 * n) (length rows) h)
+            number = by_room true (le-leb (9 * n) (length rows) h)

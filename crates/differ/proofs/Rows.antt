@@ -90,14 +90,14 @@ module _ (b c : List ℕ) where
   counts_end low k counts e = omega (arith, counts 0 (omega arith), ap length (none_left low b c))
 
   module _ (low k : ℕ) (counts : Counts low k) (s : Step) (steps : Steps b c low s) where
-    one-step : (n m : ℕ) → low + n ≡ ids → s.low + m ≡ ids → k + (length (line_if s) + length (lines_from m s.low b c)) ≡ length (lines_from ids 0 b c)
-    one-step n m e f = ap (λ (x : ℕ). k + x) (sym (ap length (steps.lines n m e f) ∙ length-append (line_if s) (lines_from m s.low b c))) ∙ counts n e
+    one_step : (n m : ℕ) → low + n ≡ ids → s.low + m ≡ ids → k + (length (line_if s) + length (lines_from m s.low b c)) ≡ length (lines_from ids 0 b c)
+    one_step n m e f = ap (λ (x : ℕ). k + x) (sym (ap length (steps.lines n m e f) ∙ length-append (line_if s) (lines_from m s.low b c))) ∙ counts n e
 
-    pub counts-more : Counts s.low (k + length (line_if s))
-    counts-more m f = let r : low < s.low = steps.rises in let x = one-step (ids - low) m (omega arith) f in omega arith
+    pub counts_more : Counts s.low (k + length (line_if s))
+    counts_more m f = let r : low < s.low = steps.rises in let x = one_step (ids - low) m (omega arith) f in omega arith
 
     pub counts_fit : k + length (line_if s) ≤ length (lines_from ids 0 b c)
-    counts_fit = let r : s.low ≤ ids = steps.most in let x = counts-more (ids - s.low) (omega arith) in omega arith
+    counts_fit = let r : s.low ≤ ids = steps.most in let x = counts_more (ids - s.low) (omega arith) in omega arith
 
   -- what the rows hold then
   pub record Filled (old rows : List ℕ) (low k : ℕ) : Type 0 where
@@ -135,7 +135,7 @@ module _ (b c : List ℕ) where
           record {
             most = steps.most;
             size = ap length is ∙ length-paste rows (9 * k) (numbers_of (line_if s)) (9 * length (line_if s)) fit l ∙ filled.size;
-            counts = rw e (counts-more low k filled.counts s steps);
+            counts = rw e (counts_more low k filled.counts s steps);
             past =
                 ap₂ (λ (n : ℕ) (x : List ℕ). drop n x) place is
                 ∙ drop-paste rows (9 * k) (numbers_of (line_if s)) (9 * length (line_if s)) (omega arith) l

@@ -87,9 +87,9 @@ module _ (b c : List ℕ) where
           ap (λ (t : Bool). cond t (lines_from m (next + 1) b c) (line_of b c next ∷ lines_from m (next + 1) b c)) (sym (ap₂ (λ (p q : Told). alike b p c q) seen looked) ∙ sym told ∙ e)
           ∙ (λ i. record { id = next; one = sym seen i; two = sym looked i } ∷ lines_from m (next + 1) b c)
 
-      pub step-on : Steps b c low step
+      pub step_on : Steps b c low step
       unfolding line_if found
-      step-on =
+      step_on =
           let l : low ≤ r = one.from in
           let h : low ≤ s = two.from in
           record {
@@ -140,10 +140,10 @@ one_fewer low (r ∷ rs) ne = go (eqb r.id low) refl (one_fewer low rs)
     go false e others =
         as_many (leb (low + 1) r.id) (leb low r.id) refl refl (others (λ absent. ne (ap (λ (t : Bool). cond t (tell 2 r) (tell_in 2 low rs)) e ∙ absent)))
 
-all-entries : (low : ℕ) (rs : List Row) → entries_from low rs ≤ length rs
+all_entries : (low : ℕ) (rs : List Row) → entries_from low rs ≤ length rs
 unfolding entries_from
-all-entries low [] = omega arith
-all-entries low (r ∷ rs) = go (leb low r.id) (all-entries low rs)
+all_entries low [] = omega arith
+all_entries low (r ∷ rs) = go (leb low r.id) (all_entries low rs)
   where
     go : (t : Bool) → entries_from low rs ≤ length rs → cond t (suc (entries_from low rs)) (entries_from low rs) ≤ suc (length rs)
     go true h = let l : suc (entries_from low rs) ≤ suc (length rs) = omega arith in l
@@ -155,12 +155,12 @@ unfolding tell_in tell
 is_absent low [] P so otherwise = so refl
 is_absent low (r ∷ rs) P so otherwise = go (eqb r.id low) refl (is_absent low rs P)
   where
-    state-of : (k : Bool) → cond {A = Told} k (record { state = VALUE; id = r.id; kind = r.kind; at = r.at; len = r.len }) (bare UNKNOWN r.id) ≡ bare ABSENT 0 → ⊥
-    state-of true e = let z : ◌≡◌ {A = ℕ} 3 1 = ap (λ (t : Told). t.state) e in omega arith
-    state-of false e = let z : ◌≡◌ {A = ℕ} 2 1 = ap (λ (t : Told). t.state) e in omega arith
+    state_of_lem : (k : Bool) → cond {A = Told} k (record { state = VALUE; id = r.id; kind = r.kind; at = r.at; len = r.len }) (bare UNKNOWN r.id) ≡ bare ABSENT 0 → ⊥
+    state_of_lem true e = let z : ◌≡◌ {A = ℕ} 3 1 = ap (λ (t : Told). t.state) e in omega arith
+    state_of_lem false e = let z : ◌≡◌ {A = ℕ} 2 1 = ap (λ (t : Told). t.state) e in omega arith
 
     not_absent : tell 2 r ≡ bare ABSENT 0 → ⊥
-    not_absent = state-of (knows 2 r.kind)
+    not_absent = state_of_lem (knows 2 r.kind)
 
     go : (t : Bool) → eqb r.id low ≡ t → ((tell_in 2 low rs ≡ bare ABSENT 0 → P) → ((tell_in 2 low rs ≡ bare ABSENT 0 → ⊥) → P) → P) → P
     go true e others = otherwise (λ absent. not_absent (sym (ap (λ (t : Bool). cond t (tell 2 r) (tell_in 2 low rs)) e) ∙ absent))
@@ -191,6 +191,6 @@ module _ (b c : List ℕ) where
           (λ y. omega (arith, fewer low (rows_of b), one_fewer low (rows_of c) y)))
           (λ x. omega (arith, fewer low (rows_of c), one_fewer low (rows_of b) x))
 
-  pub most-lines : (o p : Opened) → Looked o b → Looked p c → (n low : ℕ) → length (lines_from n low b c) ≤ 512
-  most-lines o p one two n low =
-      omega (arith, counted n low, all-entries low (rows_of b), all-entries low (rows_of c), length_rows_from (count_of b) (drop 8 b), length_rows_from (count_of c) (drop 8 c), few o b one, few p c two)
+  pub most_lines : (o p : Opened) → Looked o b → Looked p c → (n low : ℕ) → length (lines_from n low b c) ≤ 512
+  most_lines o p one two n low =
+      omega (arith, counted n low, all_entries low (rows_of b), all_entries low (rows_of c), length_rows_from (count_of b) (drop 8 b), length_rows_from (count_of c) (drop 8 c), few o b one, few p c two)

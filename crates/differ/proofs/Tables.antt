@@ -16,9 +16,9 @@ use Rattle.bundle_format.specs.declared.Told.{Told}
 use Rattle.bundle_format.specs.declared.Opened.{Opened}
 use Rattle.bundle_format.proofs.Rows.{length_rows_from}
 use Rattle.bundle_format.proofs.Accepted.{Whole, accepts}
-use Rattle.bundle_format.proofs.Decoded.{Sound, sound-only}
+use Rattle.bundle_format.proofs.Decoded.{Sound, sound_only}
 use Rattle.bundle_format.proofs.Entries.{tell-id}
-use Rattle.bundle_format.proofs.Theorems.{look_as_ask, entry-is}
+use Rattle.bundle_format.proofs.Theorems.{look_as_ask, entry_is}
 use Rattle.differ.specs.Difference.{told_of, ids}
 use Rattle.differ.specs.Inner.{Looked, FirstFrom}
 
@@ -28,13 +28,13 @@ passed_over : (id : ℕ) (r : Row) (rs : List Row) → (r.id ≡ id → ⊥) →
 unfolding tell_in
 passed_over id r rs ne = ap (λ (t : Bool). cond t (tell 2 r) (tell_in 2 id rs)) (ne_eqb r.id id ne)
 
-before-all : (b : List ℕ) (low at : ℕ) (rs : List Row) (id : ℕ) → sound_rows 2 b low at rs ≡ true → id < low → tell_in 2 id rs ≡ bare ABSENT 0
+before_all : (b : List ℕ) (low at : ℕ) (rs : List Row) (id : ℕ) → sound_rows 2 b low at rs ≡ true → id < low → tell_in 2 id rs ≡ bare ABSENT 0
 unfolding tell_in
-before-all b low at [] id e h = refl
-before-all b low at (r ∷ rs) id e h =
-    let s : Sound 2 b low at r rs = sound-only 2 b low at r rs e in
+before_all b low at [] id e h = refl
+before_all b low at (r ∷ rs) id e h =
+    let s : Sound 2 b low at r rs = sound_only 2 b low at r rs e in
     let rises : low ≤ r.id = s.stands.rises in
-    passed_over id r rs (λ same. omega arith) ∙ before-all b (r.id + 1) (at + r.len) rs id s.rest (omega arith)
+    passed_over id r rs (λ same. omega arith) ∙ before_all b (r.id + 1) (at + r.len) rs id s.rest (omega arith)
 
 -- every entry before place i has a lower id, and the one there, if any, a higher one
 between : (b : List ℕ) (low at : ℕ) (rs : List Row) (id i : ℕ) → sound_rows 2 b low at rs ≡ true
@@ -42,23 +42,23 @@ between : (b : List ℕ) (low at : ℕ) (rs : List Row) (id i : ℕ) → sound_r
 unfolding tell_in tell_at
 between b low at [] id i e before after l = refl
 between b low at (r ∷ rs) id zero e before after l =
-    let s : Sound 2 b low at r rs = sound-only 2 b low at r rs e in
+    let s : Sound 2 b low at r rs = sound_only 2 b low at r rs e in
     let h : id < r.id = rw (tell-id 2 r) at (after (omega arith)) in
-    passed_over id r rs (λ same. omega arith) ∙ before-all b (r.id + 1) (at + r.len) rs id s.rest (omega arith)
+    passed_over id r rs (λ same. omega arith) ∙ before_all b (r.id + 1) (at + r.len) rs id s.rest (omega arith)
 between b low at (r ∷ rs) id (suc i) e before after l =
-    let s : Sound 2 b low at r rs = sound-only 2 b low at r rs e in
+    let s : Sound 2 b low at r rs = sound_only 2 b low at r rs e in
     let h : r.id < id = rw (tell-id 2 r) at (before 0 (omega arith)) in
     passed_over id r rs (λ same. omega arith)
     ∙ between b (r.id + 1) (at + r.len) rs id i s.rest (λ j k. before (suc j) (omega arith)) (λ k. after (omega arith)) (le_of_suc-le-suc l)
 
 -- ---- bodies
 
-told-within : (b : List ℕ) (low at : ℕ) (rs : List Row) (id : ℕ) → sound_rows 2 b low at rs ≡ true → (tell_in 2 id rs).at + (tell_in 2 id rs).len ≤ length b
+told_within : (b : List ℕ) (low at : ℕ) (rs : List Row) (id : ℕ) → sound_rows 2 b low at rs ≡ true → (tell_in 2 id rs).at + (tell_in 2 id rs).len ≤ length b
 unfolding tell_in tell
-told-within b low at [] id e = omega arith
-told-within b low at (r ∷ rs) id e =
-    let s : Sound 2 b low at r rs = sound-only 2 b low at r rs e in
-    go (eqb r.id id) (knows 2 r.kind) s.stands.begins s.stands.ends (told-within b (r.id + 1) (at + r.len) rs id s.rest)
+told_within b low at [] id e = omega arith
+told_within b low at (r ∷ rs) id e =
+    let s : Sound 2 b low at r rs = sound_only 2 b low at r rs e in
+    go (eqb r.id id) (knows 2 r.kind) s.stands.begins s.stands.ends (told_within b (r.id + 1) (at + r.len) rs id s.rest)
   where
     told : (t k : Bool) → Told
     told t k = cond t (cond k (record { state = VALUE; id = r.id; kind = r.kind; at = r.at; len = r.len }) (bare UNKNOWN r.id)) (tell_in 2 id rs)
@@ -77,9 +77,9 @@ module _ (o : Opened) (b : List ℕ) (seen : Looked o b) where
   sound : sound_rows 2 b 0 (first_body (count_of b)) (rows_of b) ≡ true
   sound = whole.formed.rows
 
-  pub count-is : o.count ≡ count_of b
+  pub count_is : o.count ≡ count_of b
   unfolding opened
-  count-is =
+  count_is =
       ap (λ (p : Opened). p.count) seen.is
       ∙ ap (λ (p : Opened). p.count) (if_done_lem (read_code 2 seen.key b) (record { code = 0; reader = 2; count = count_of b; size = length b }) (record { code = read_code 2 seen.key b; reader = 2; count = 0; size = 0 }) seen.done)
 
@@ -88,7 +88,7 @@ module _ (o : Opened) (b : List ℕ) (seen : Looked o b) where
 
   pub entry-told : (i : ℕ) → entry_of o b i ≡ tell_at 2 i (rows_of b)
   entry-told i =
-      ap (λ (p : Opened). entry_of p b i) seen.is ∙ entry-is 2 seen.key b i ∙ if_done_lem (read_code 2 seen.key b) (tell_at 2 i (rows_of b)) (bare REFUSED 0) seen.done
+      ap (λ (p : Opened). entry_of p b i) seen.is ∙ entry_is 2 seen.key b i ∙ if_done_lem (read_code 2 seen.key b) (tell_at 2 i (rows_of b)) (bare REFUSED 0) seen.done
 
   pub look-told : (id : ℕ) → looked_up o b id ≡ told_of b id
   look-told id =
@@ -96,14 +96,14 @@ module _ (o : Opened) (b : List ℕ) (seen : Looked o b) where
       ∙ look_as_ask 2 seen.key b id 0 (told_of b id) (record { is = sym seen.done; leaves = sym (if_done_lem (read_code 2 seen.key b) (told_of b id) (bare REFUSED 0) seen.done) })
 
   pub within : (id : ℕ) → (told_of b id).at + (told_of b id).len ≤ length b
-  within id = told-within b 0 (first_body (count_of b)) (rows_of b) id sound
+  within id = told_within b 0 (first_body (count_of b)) (rows_of b) id sound
 
   entries : length (rows_of b) ≡ o.count
-  entries = length_rows_from (count_of b) _ ∙ sym count-is
+  entries = length_rows_from (count_of b) _ ∙ sym count_is
 
   -- the entry at place i is the first from `low` on
-  pub first-there : (low i : ℕ) (t : Told) → i < o.count → ((j : ℕ) → j < i → (tell_at 2 j (rows_of b)).id < low) → t ≡ entry_of o b i → low ≤ t.id → t.id < ids → FirstFrom b low t.id
-  first-there low i t h before is from most =
+  pub first_there : (low i : ℕ) (t : Told) → i < o.count → ((j : ℕ) → j < i → (tell_at 2 j (rows_of b)).id < low) → t ≡ entry_of o b i → low ≤ t.id → t.id < ids → FirstFrom b low t.id
+  first_there low i t h before is from most =
       record {
         from = from;
         most = omega arith;
@@ -117,8 +117,8 @@ module _ (o : Opened) (b : List ℕ) (seen : Looked o b) where
       above id m = rw (is ∙ entry-told i) at m
 
   -- no entry is from `low` on
-  pub first-none : (low : ℕ) → low < ids → ((j : ℕ) → j < o.count → (tell_at 2 j (rows_of b)).id < low) → FirstFrom b low ids
-  first-none low h before =
+  pub first_none : (low : ℕ) → low < ids → ((j : ℕ) → j < o.count → (tell_at 2 j (rows_of b)).id < low) → FirstFrom b low ids
+  first_none low h before =
       record {
         from = omega arith;
         most = omega arith;

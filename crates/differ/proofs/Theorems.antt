@@ -12,9 +12,9 @@ use Rattle.published.specs.Bytes.{Bytes}
 use Rattle.bundle_format.specs.Reader.{read_code, opened}
 use Rattle.differ.specs.Difference.{told_of, alike, Line, line_of, lines_from, ids, listed}
 use Rattle.differ.specs.Promises.{answer, In, here, there, Rising, none, more, exchanged}
-use Rattle.differ.proofs.Stretches.{most-lines}
-use Rattle.differ.proofs.Outcomes.{first-refused, second-refused, both-accepted}
-use Rattle.differ.proofs.Told_apart.{told_same, same-told, told-apart, past-answer}
+use Rattle.differ.proofs.Stretches.{most_lines}
+use Rattle.differ.proofs.Outcomes.{first_refused, second-refused, both_accepted}
+use Rattle.differ.proofs.Told_apart.{told_same, same_told, told-apart, past_answer}
 
 no_place : (l : Line) → In l [] → ⊥
 no_place l = elim [ ]
@@ -23,9 +23,9 @@ nowhere : (l : Line) (ls : List Line) → ls ≡ [] → In l ls → ⊥
 nowhere l [] e i = absurd (no_place l i)
 nowhere l (m ∷ ls) e i = let z : ◌≡◌ {A = ℕ} (suc (length ls)) 0 = ap length e in omega arith
 
-first-or : (l m : Line) (ls : List Line) → In l (m ∷ ls) → (l ≡ m) ⊎ In l ls
-first-or l m ls here = inl refl
-first-or l m ls (there i) = inr i
+first_or : (l m : Line) (ls : List Line) → In l (m ∷ ls) → (l ≡ m) ⊎ In l ls
+first_or l m ls here = inl refl
+first_or l m ls (there i) = inr i
 
 -- ---- of a stretch of ids
 
@@ -71,7 +71,7 @@ module _ (b c : List ℕ) where
           → (In l (lines_from n (low + 1) b c) → (l ≡ line_of b c l.id) × (alike b (told_of b l.id) c (told_of c l.id) ≡ false))
           → In l (cond t (lines_from n (low + 1) b c) (line_of b c low ∷ lines_from n (low + 1) b c)) → (l ≡ line_of b c l.id) × (alike b (told_of b l.id) c (told_of c l.id) ≡ false)
       go true e others i = others i
-      go false e others i = ⊎_elim (λ is. found l is e) others (first-or l (line_of b c low) (lines_from n (low + 1) b c) i)
+      go false e others i = ⊎_elim (λ is. found l is e) others (first_or l (line_of b c low) (lines_from n (low + 1) b c) i)
 
   stretch_none : (n low : ℕ) → ((id : ℕ) → alike b (told_of b id) c (told_of c id) ≡ true) → lines_from n low b c ≡ []
   unfolding lines_from
@@ -106,9 +106,9 @@ module _ (key b c : List ℕ) where
   by_codes P nothing all = go (eqb (read_code 2 key b) 0) refl (eqb (read_code 2 key c) 0) refl
     where
       go : (t : Bool) → eqb (read_code 2 key b) 0 ≡ t → (u : Bool) → eqb (read_code 2 key c) 0 ≡ u → P (listed key b c)
-      go true e true f = rw (both-accepted key b c (eqb-true (read_code 2 key b) 0 e) (eqb-true (read_code 2 key c) 0 f)) all
+      go true e true f = rw (both_accepted key b c (eqb-true (read_code 2 key b) 0 e) (eqb-true (read_code 2 key c) 0 f)) all
       go true e false f = rw (second-refused key b c (eqb-false (read_code 2 key c) 0 f)) nothing
-      go false e u f = rw (first-refused key b c (eqb-false (read_code 2 key b) 0 e)) nothing
+      go false e u f = rw (first_refused key b c (eqb-false (read_code 2 key b) 0 e)) nothing
 
   -- ids rise strictly, so that each is listed once
   pub rises : Rising 0 (listed key b c)
@@ -116,14 +116,14 @@ module _ (key b c : List ℕ) where
 
   -- what is listed: an id with both its answers, which differ
   pub listed_differs : (l : Line) → In l (listed key b c) → (l ≡ line_of b c l.id) × (answer b l.id ≢ answer c l.id)
-  listed_differs l = by_codes (λ ls. In l ls → (l ≡ line_of b c l.id) × (answer b l.id ≢ answer c l.id)) (λ i. absurd (nowhere l [] refl i)) (λ i. of-all (stretch_only b c ids 0 l i))
+  listed_differs l = by_codes (λ ls. In l ls → (l ≡ line_of b c l.id) × (answer b l.id ≢ answer c l.id)) (λ i. absurd (nowhere l [] refl i)) (λ i. of_all (stretch_only b c ids 0 l i))
     where
-      of-all : (l ≡ line_of b c l.id) × (alike b (told_of b l.id) c (told_of c l.id) ≡ false) → (l ≡ line_of b c l.id) × (answer b l.id ≢ answer c l.id)
-      of-all p = (p.0, told-apart b c l.id p.1)
+      of_all : (l ≡ line_of b c l.id) × (alike b (told_of b l.id) c (told_of c l.id) ≡ false) → (l ≡ line_of b c l.id) × (answer b l.id ≢ answer c l.id)
+      of_all p = (p.0, told-apart b c l.id p.1)
 
   -- a refused bundle lists nothing
-  pub refused-first : read_code 2 key b ≢ 0 → listed key b c ≡ []
-  refused-first = first-refused key b c
+  pub refused_first : read_code 2 key b ≢ 0 → listed key b c ≡ []
+  refused_first = first_refused key b c
 
   pub refused-second : read_code 2 key c ≢ 0 → listed key b c ≡ []
   refused-second = second-refused key b c
@@ -139,19 +139,19 @@ module _ (key b c : List ℕ) where
       go true e true f =
           let x : read_code 2 key b ≡ 0 = eqb-true (read_code 2 key b) 0 e in
           let y : read_code 2 key c ≡ 0 = eqb-true (read_code 2 key c) 0 f in
-          rw (both-accepted key b c x y) (most-lines b c (opened 2 key b) (opened 2 key c) (record { key = key; is = refl; done = x }) (record { key = key; is = refl; done = y }) ids 0)
+          rw (both_accepted key b c x y) (most_lines b c (opened 2 key b) (opened 2 key c) (record { key = key; is = refl; done = x }) (record { key = key; is = refl; done = y }) ids 0)
       go true e false f = empty (second-refused key b c (eqb-false (read_code 2 key c) 0 f))
-      go false e u f = empty (first-refused key b c (eqb-false (read_code 2 key b) 0 e))
+      go false e u f = empty (first_refused key b c (eqb-false (read_code 2 key b) 0 e))
 
   module _ (bytes : Bytes b) (bytes' : Bytes c) (e : read_code 2 key b ≡ 0) (f : read_code 2 key c ≡ 0) where
     -- every id whose answers differ is listed
     pub differs_listed : (id : ℕ) → answer b id ≢ answer c id → In (line_of b c id) (listed key b c)
-    differs_listed id apart = rw (both-accepted key b c e f) (go (ltb id ids) refl (alike b (told_of b id) c (told_of c id)) refl)
+    differs_listed id apart = rw (both_accepted key b c e f) (go (ltb id ids) refl (alike b (told_of b id) c (told_of c id)) refl)
       where
         go : (t : Bool) → ltb id ids ≡ t → (u : Bool) → alike b (told_of b id) c (told_of c id) ≡ u → In (line_of b c id) (lines_from ids 0 b c)
         go true h true g = absurd (apart (told_same b c id g))
         go true h false g = stretch_all b c ids 0 id (omega arith) (omega (arith, ltb-true id ids h)) g
-        go false h u g = absurd (apart (past-answer key b id bytes e (ltb-false id ids h) ∙ sym (past-answer key c id bytes' f (ltb-false id ids h))))
+        go false h u g = absurd (apart (past_answer key b id bytes e (ltb-false id ids h) ∙ sym (past_answer key c id bytes' f (ltb-false id ids h))))
 
     -- if nothing is listed, every id answers alike in both
     pub nothing-listed : listed key b c ≡ [] → (id : ℕ) → answer b id ≡ answer c id
@@ -169,14 +169,14 @@ sides_exchanged key b c = go (eqb (read_code 2 key b) 0) refl (eqb (read_code 2 
     go true e true f =
         let x : read_code 2 key b ≡ 0 = eqb-true (read_code 2 key b) 0 e in
         let y : read_code 2 key c ≡ 0 = eqb-true (read_code 2 key c) 0 f in
-        both-accepted key c b y x ∙ stretch_turned b c ids 0 ∙ ap (map exchanged) (sym (both-accepted key b c x y))
+        both_accepted key c b y x ∙ stretch_turned b c ids 0 ∙ ap (map exchanged) (sym (both_accepted key b c x y))
     go true e false f =
         let y : read_code 2 key c ≢ 0 = eqb-false (read_code 2 key c) 0 f in
-        first-refused key c b y ∙ ap (map exchanged) (sym (second-refused key b c y))
+        first_refused key c b y ∙ ap (map exchanged) (sym (second-refused key b c y))
     go false e u f =
         let x : read_code 2 key b ≢ 0 = eqb-false (read_code 2 key b) 0 e in
-        second-refused key c b x ∙ ap (map exchanged) (sym (first-refused key b c x))
+        second-refused key c b x ∙ ap (map exchanged) (sym (first_refused key b c x))
 
 -- a bundle against itself lists nothing
 pub against_itself : (key b : List ℕ) → listed key b b ≡ []
-against_itself key b = by_codes key b b (λ ls. ls ≡ []) refl (stretch_none b b ids 0 (λ id. same-told b b id refl))
+against_itself key b = by_codes key b b (λ ls. ls ≡ []) refl (stretch_none b b ids 0 (λ id. same_told b b id refl))

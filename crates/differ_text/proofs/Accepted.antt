@@ -19,10 +19,10 @@ use Rattle.bundle_format.specs.Reader.{count_of, edition_of, rows_of, body_at, s
 use Rattle.bundle_format.specs.declared.Row.{Row}
 use Rattle.bundle_format.proofs.Accepted.{accepts}
 use Rattle.bundle_format.proofs.Editions.{or_else}
-use Rattle.bundle_format.proofs.Decoded.{Sound, sound-only}
+use Rattle.bundle_format.proofs.Decoded.{Sound, sound_only}
 use Rattle.differ.specs.Difference.{Line, line_of, listed}
 use Rattle.differ.specs.Promises.{answer, In}
-use Rattle.differ.proofs.Told_apart.{past-answer}
+use Rattle.differ.proofs.Told_apart.{past_answer}
 use Rattle.differ.proofs.Theorems.{listed_differs}
 use Rattle.differ_text.specs.Rendered.{plain, escaped_byte, escaped, side_text, line_text}
 use Rattle.differ_text.specs.Promises.{Shown, a_value, an_absence, an_unknown}
@@ -51,7 +51,7 @@ shown_in : (b : List ℕ) (low at : ℕ) (rs : List Row) (id : ℕ) → Bytes b 
 unfolding tell_in
 shown_in b low at [] id bytes e = rw (absent_meant b (bare ABSENT 0) refl) an_absence
 shown_in b low at (r ∷ rs) id bytes e =
-    let s : Sound 2 b low at r rs = sound-only 2 b low at r rs e in
+    let s : Sound 2 b low at r rs = sound_only 2 b low at r rs e in
     go (eqb r.id id) (shown-row b low at r rs bytes s) (shown_in b (r.id + 1) (at + r.len) rs id bytes s.rest)
   where
     go : (t : Bool) → Shown (meant b (tell 2 r)) → Shown (meant b (tell_in 2 id rs)) → Shown (meant b (cond t (tell 2 r) (tell_in 2 id rs)))
@@ -117,4 +117,4 @@ line_short key b c l bytes bytes' e f i =
   where
     small : (t : Bool) → ltb l.id 4294967296 ≡ t → (answer b l.id ≡ answer c l.id → ⊥) → l.id < 2 ^ 64
     small true h apart = omega (arith, ltb-true l.id 4294967296 h)
-    small false h apart = absurd (apart (past-answer key b l.id bytes e (ltb-false l.id 4294967296 h) ∙ sym (past-answer key c l.id bytes' f (ltb-false l.id 4294967296 h))))
+    small false h apart = absurd (apart (past_answer key b l.id bytes e (ltb-false l.id 4294967296 h) ∙ sym (past_answer key c l.id bytes' f (ltb-false l.id 4294967296 h))))

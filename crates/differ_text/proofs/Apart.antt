@@ -12,7 +12,7 @@ use lib.Seq.{take_all}
 use borrow.Author.Tests.{ltb-true, ltb-false, eqb-true}
 use Rattle.bits.proofs.Truth.{both}
 use Rattle.published.specs.Bytes.{from_bytes, to_bytes, Bytes}
-use Rattle.published.proofs.Reading.{to-from}
+use Rattle.published.proofs.Reading.{to_from}
 use Rattle.text.specs.Hex.{hex_digits, place_of, value_of, hex_of}
 use Rattle.text.specs.Decimal.{last_digits, decimal_of}
 use Rattle.text.proofs.Numerals.{value-digit}
@@ -112,17 +112,17 @@ decimal_first c d n m s t h k e =
 
 -- ---- text
 
-digit-only : (d e : ℕ) → d < 16 → e < 16 → get_or hex_digits d 0 ≡ get_or hex_digits e 0 → d ≡ e
-digit-only d e h k same = sym (value-digit d h) ∙ ap value_of same ∙ value-digit e k
+digit_only : (d e : ℕ) → d < 16 → e < 16 → get_or hex_digits d 0 ≡ get_or hex_digits e 0 → d ≡ e
+digit_only d e h k same = sym (value-digit d h) ∙ ap value_of same ∙ value-digit e k
 
 no_mark : (d : ℕ) → d < 16 → get_or hex_digits d 0 ≢ 34
 unfolding value_of
 no_mark d h e = let z : d ≡ 16 = sym (value-digit d h) ∙ ap (λ (c : ℕ). place_of c hex_digits) e in omega arith
 
 -- what a plain byte is not
-plain-not : (b : ℕ) → plain b ≡ true → (b ≢ 34) × (b ≢ 92)
+plain_not : (b : ℕ) → plain b ≡ true → (b ≢ 34) × (b ≢ 92)
 unfolding plain
-plain-not b e = (λ i. false≢true (ap plain (sym i) ∙ e), λ i. false≢true (ap plain (sym i) ∙ e))
+plain_not b e = (λ i. false≢true (ap plain (sym i) ∙ e), λ i. false≢true (ap plain (sym i) ∙ e))
 
 byte-free : (b : ℕ) → b < 256 → Free 34 (escaped_byte b)
 unfolding escaped_byte hex_of
@@ -135,7 +135,7 @@ byte-free b h = go (plain b) refl
     letter e = omega arith
 
     go : (t : Bool) → plain b ≡ t → Free 34 (cond t (b ∷ []) (92 ∷ 120 ∷ get_or hex_digits (b / 16) 0 ∷ get_or hex_digits (b % 16) 0 ∷ []))
-    go true e = more (plain-not b e).0 none
+    go true e = more (plain_not b e).0 none
     go false e = more stroke (more letter (more (no_mark (b / 16) (omega arith)) (more (no_mark (b % 16) (omega arith)) none)))
 
 escaped-free : (bs : List ℕ) → Bytes bs → Free 34 (escaped bs)
@@ -143,20 +143,20 @@ unfolding escaped
 escaped-free [] h = none
 escaped-free (b ∷ bs) h = free-append 34 (escaped_byte b) (escaped bs) (byte-free b (h 0)) (escaped-free bs (λ i. h (suc i)))
 
-byte-only : (a b : ℕ) (s t : List ℕ) → a < 256 → b < 256 → escaped_byte a ++ s ≡ escaped_byte b ++ t → (a ≡ b) × (s ≡ t)
+byte_only : (a b : ℕ) (s t : List ℕ) → a < 256 → b < 256 → escaped_byte a ++ s ≡ escaped_byte b ++ t → (a ≡ b) × (s ≡ t)
 unfolding escaped_byte hex_of
-byte-only a b s t h k e = go (plain a) refl (plain b) refl e
+byte_only a b s t h k e = go (plain a) refl (plain b) refl e
   where
     form : (p : Bool) (x : ℕ) → List ℕ
     form p x = cond p (x ∷ []) (92 ∷ 120 ∷ get_or hex_digits (x / 16) 0 ∷ get_or hex_digits (x % 16) 0 ∷ [])
 
     go : (p : Bool) → plain a ≡ p → (q : Bool) → plain b ≡ q → form p a ++ s ≡ form q b ++ t → (a ≡ b) × (s ≡ t)
     go true p true q f = (ap (λ (l : List ℕ). get_or l 0 0) f, ap (drop 1) f)
-    go true p false q f = absurd ((plain-not a p).1 (ap (λ (l : List ℕ). get_or l 0 0) f))
-    go false p true q f = absurd ((plain-not b q).1 (sym (ap (λ (l : List ℕ). get_or l 0 0) f)))
+    go true p false q f = absurd ((plain_not a p).1 (ap (λ (l : List ℕ). get_or l 0 0) f))
+    go false p true q f = absurd ((plain_not b q).1 (sym (ap (λ (l : List ℕ). get_or l 0 0) f)))
     go false p false q f =
-        let high : a / 16 ≡ b / 16 = digit-only (a / 16) (b / 16) (omega arith) (omega arith) (ap (λ (l : List ℕ). get_or l 2 0) f) in
-        let low : a % 16 ≡ b % 16 = digit-only (a % 16) (b % 16) (omega arith) (omega arith) (ap (λ (l : List ℕ). get_or l 3 0) f) in
+        let high : a / 16 ≡ b / 16 = digit_only (a / 16) (b / 16) (omega arith) (omega arith) (ap (λ (l : List ℕ). get_or l 2 0) f) in
+        let low : a % 16 ≡ b % 16 = digit_only (a % 16) (b % 16) (omega arith) (omega arith) (ap (λ (l : List ℕ). get_or l 3 0) f) in
         (omega arith, ap (drop 4) f)
 
 some_byte : (b : ℕ) (l : List ℕ) → escaped_byte b ++ l ≡ [] → ⊥
@@ -167,21 +167,21 @@ some_byte b l e = go (plain b) e
     go true f = let z : suc (length l) ≡ 0 = ap length f in omega arith
     go false f = let z : suc (suc (length (hex_of (b ∷ []) ++ l))) ≡ 0 = ap length f in omega arith
 
-escaped-only : (x y : List ℕ) → Bytes x → Bytes y → escaped x ≡ escaped y → x ≡ y
+escaped_only : (x y : List ℕ) → Bytes x → Bytes y → escaped x ≡ escaped y → x ≡ y
 unfolding escaped
-escaped-only [] [] h k e = refl
-escaped-only [] (b ∷ y) h k e = absurd (some_byte b (escaped y) (sym e))
-escaped-only (a ∷ x) [] h k e = absurd (some_byte a (escaped x) e)
-escaped-only (a ∷ x) (b ∷ y) h k e =
-    let p = byte-only a b (escaped x) (escaped y) (h 0) (k 0) e in
-    ap₂ ◌∷◌ p.0 (escaped-only x y (λ i. h (suc i)) (λ i. k (suc i)) p.1)
+escaped_only [] [] h k e = refl
+escaped_only [] (b ∷ y) h k e = absurd (some_byte b (escaped y) (sym e))
+escaped_only (a ∷ x) [] h k e = absurd (some_byte a (escaped x) e)
+escaped_only (a ∷ x) (b ∷ y) h k e =
+    let p = byte_only a b (escaped x) (escaped y) (h 0) (k 0) e in
+    ap₂ ◌∷◌ p.0 (escaped_only x y (λ i. h (suc i)) (λ i. k (suc i)) p.1)
 
 -- ---- values
 
-body-only : (n : ℕ) (x y : List ℕ) → n ≤ 8 → length x ≡ n → length y ≡ n → Bytes x → Bytes y → from_bytes (take 8 x) ≡ from_bytes (take 8 y) → x ≡ y
-body-only n x y small lx ly h k e =
+body_only : (n : ℕ) (x y : List ℕ) → n ≤ 8 → length x ≡ n → length y ≡ n → Bytes x → Bytes y → from_bytes (take 8 x) ≡ from_bytes (take 8 y) → x ≡ y
+body_only n x y small lx ly h k e =
     let same : from_bytes x ≡ from_bytes y = ap from_bytes (sym (take_all 8 x (omega arith))) ∙ e ∙ ap from_bytes (take_all 8 y (omega arith)) in
-    sym (to-from x h) ∙ ap₂ to_bytes (lx ∙ sym ly) same ∙ to-from y k
+    sym (to_from x h) ∙ ap₂ to_bytes (lx ∙ sym ly) same ∙ to_from y k
 
 flag-long : (body : List ℕ) → good_value 0 body ≡ true → length body ≡ 1
 unfolding good_value
@@ -201,14 +201,14 @@ module _ (c d : ℕ) (h : c < 48) (h' : d < 48) (s t : List ℕ) where
   unfolding side_text
   values_first zero x zero y g g' bx by e =
       let p = decimal_first c d (from_bytes (take 8 x)) (from_bytes (take 8 y)) s t (λ n k i. omega arith) (λ n k i. omega arith) (ap (drop 5) e) in
-      (ap (value 0) (body-only 1 x y (omega arith) (flag-long x g) (flag-long y g') bx by p.0), p.1)
+      (ap (value 0) (body_only 1 x y (omega arith) (flag-long x g) (flag-long y g') bx by p.0), p.1)
   values_first (suc zero) x (suc zero) y g g' bx by e =
       let p = decimal_first c d (from_bytes (take 8 x)) (from_bytes (take 8 y)) s t (λ n k i. omega arith) (λ n k i. omega arith) (ap (drop 7) e) in
-      (ap (value 1) (body-only 8 x y (omega arith) (number-long x g) (number-long y g') bx by p.0), p.1)
+      (ap (value 1) (body_only 8 x y (omega arith) (number-long x g) (number-long y g') bx by p.0), p.1)
   values_first (suc (suc zero)) x (suc (suc zero)) y g g' bx by e =
       let q : escaped x ++ 34 ∷ c ∷ s ≡ escaped y ++ 34 ∷ d ∷ t = sym (append_assoc (escaped x) (34 ∷ []) (c ∷ s)) ∙ ap (drop 6) e ∙ append_assoc (escaped y) (34 ∷ []) (d ∷ t) in
       let p = split 34 (escaped x) (escaped y) (c ∷ s) (d ∷ t) (escaped-free x bx) (escaped-free y by) q in
-      (ap (value 2) (escaped-only x y bx by p.0), p.1)
+      (ap (value 2) (escaped_only x y bx by p.0), p.1)
   values_first zero x (suc zero) y g g' bx by e = let z : ◌≡◌ {A = ℕ} 102 110 = ap first e in absurd (omega arith)
   values_first zero x (suc (suc m)) y g g' bx by e = let z : ◌≡◌ {A = ℕ} 102 116 = ap first e in absurd (omega arith)
   values_first (suc zero) x zero y g g' bx by e = let z : ◌≡◌ {A = ℕ} 110 102 = ap first e in absurd (omega arith)
@@ -225,20 +225,20 @@ module _ (c d : ℕ) (h : c < 48) (h' : d < 48) (s t : List ℕ) where
   value-begins (suc zero) x l w below e = omega arith
   value-begins (suc (suc k)) x l w below e = omega arith
 
-  value-not-117 : (k : ℕ) (x l : List ℕ) → first (side_text (value k x) ++ l) ≡ 117 → ⊥
+  value_not_117 : (k : ℕ) (x l : List ℕ) → first (side_text (value k x) ++ l) ≡ 117 → ⊥
   unfolding side_text
-  value-not-117 zero x l e = omega arith
-  value-not-117 (suc zero) x l e = omega arith
-  value-not-117 (suc (suc k)) x l e = omega arith
+  value_not_117 zero x l e = omega arith
+  value_not_117 (suc zero) x l e = omega arith
+  value_not_117 (suc (suc k)) x l e = omega arith
 
   -- an answer, and then a byte that is no digit
   side_first : (a a' : Answer) → Shown a → Shown a' → side_text a ++ c ∷ s ≡ side_text a' ++ d ∷ t → (a ≡ a') × (c ∷ s ≡ d ∷ t)
   unfolding side_text
   side_first a a' (a_value k x known g bx) (a_value m y known' g' by) e = values_first k x m y g g' bx by e
   side_first a a' (a_value k x known g bx) an_absence e = absurd (value-begins k x (c ∷ s) 97 (omega arith) (ap first e))
-  side_first a a' (a_value k x known g bx) an_unknown e = absurd (value-not-117 k x (c ∷ s) (ap first e))
+  side_first a a' (a_value k x known g bx) an_unknown e = absurd (value_not_117 k x (c ∷ s) (ap first e))
   side_first a a' an_absence (a_value m y known g by) e = absurd (value-begins m y (d ∷ t) 97 (omega arith) (sym (ap first e)))
-  side_first a a' an_unknown (a_value m y known g by) e = absurd (value-not-117 m y (d ∷ t) (sym (ap first e)))
+  side_first a a' an_unknown (a_value m y known g by) e = absurd (value_not_117 m y (d ∷ t) (sym (ap first e)))
   side_first a a' an_absence an_absence e = (refl, ap (drop 6) e)
   side_first a a' an_unknown an_unknown e = (refl, ap (drop 7) e)
   side_first a a' an_absence an_unknown e = let z : ◌≡◌ {A = ℕ} 97 117 = ap first e in absurd (omega arith)
@@ -251,8 +251,8 @@ shaped : (b c : List ℕ) (l : Line) → line_text b c l ≡ decimal_of l.id ++ 
 unfolding line_text
 shaped b c l = simp append_assoc
 
-pub never-alike : (a a' : Answer) → Shown a → Shown a' → side_text a ≡ side_text a' → a ≡ a'
-never-alike a a' shown shown' e = (side_first 10 10 (omega arith) (omega arith) [] [] a a' shown shown' (ap (λ (l : List ℕ). l ++ (10 ∷ [])) e)).0
+pub never_alike : (a a' : Answer) → Shown a → Shown a' → side_text a ≡ side_text a' → a ≡ a'
+never_alike a a' shown shown' e = (side_first 10 10 (omega arith) (omega arith) [] [] a a' shown shown' (ap (λ (l : List ℕ). l ++ (10 ∷ [])) e)).0
 
 -- of whole lines: the id and both answers are read back
 pub line_only : (b c b' c' : List ℕ) (l l' : Line) → Shown (meant b l.one) → Shown (meant b' l'.one) → Shown (meant c l.two) → Shown (meant c' l'.two) → line_text b c l ≡ line_text b' c' l'

@@ -12,14 +12,14 @@ use borrow.Author.Tests.{leb-true, leb-false}
 use Rattle.differ_text.specs.Pieces.{Lays}
 
 module _ (l o : List ℕ) (n : ℕ) (e : List ℕ) (lays : Lays l o n e) where
-  pub same-room : length e ≡ length o
-  same-room = ap length lays.leaves ∙ length-take (length o) (l ++ drop (length l) o) ∙ enough
+  pub same_room : length e ≡ length o
+  same_room = ap length lays.leaves ∙ length-take (length o) (l ++ drop (length l) o) ∙ enough
     where
       enough : min (length o) (length (l ++ drop (length l) o)) ≡ length o
       enough = omega (arith, length-append l (drop (length l) o), length-drop (length l) o)
 
   pub within : n ≤ length e
-  within = omega (arith, lays.is, same-room)
+  within = omega (arith, lays.is, same_room)
 
   -- a byte more, if there is room
   module _ (b : ℕ) where
@@ -28,7 +28,7 @@ module _ (l o : List ℕ) (n : ℕ) (e : List ℕ) (lays : Lays l o n e) where
 
     pub one_more : n < length e → Lays (l ++ (b ∷ [])) o (n + 1) (set e n b)
     one_more h =
-        let room : length e ≡ length o = same-room in
+        let room : length e ≡ length o = same_room in
         let is : n ≡ length l = omega (arith, lays.is) in
         let fits : length l < length o = omega arith in
         record {
@@ -46,7 +46,7 @@ module _ (l o : List ℕ) (n : ℕ) (e : List ℕ) (lays : Lays l o n e) where
 
     pub no_room : length e ≤ n → Lays (l ++ (b ∷ [])) o n e
     no_room h =
-        let room : length e ≡ length o = same-room in
+        let room : length e ≡ length o = same_room in
         let full : length o ≤ length l = omega (arith, lays.is) in
         record {
           is = omega (arith, lays.is, longer);

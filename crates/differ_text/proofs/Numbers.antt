@@ -32,8 +32,8 @@ last_byte (x ∷ l) b =
         joined = omega arith
 
 module _ (l : List ℕ) (i n : ℕ) (is : n ≡ from_bytes (take i l)) where
-  pub next-byte : i < length l → n * 256 + get_or l i 0 ≡ from_bytes (take (i + 1) l)
-  next-byte h =
+  pub next_byte : i < length l → n * 256 + get_or l i 0 ≡ from_bytes (take (i + 1) l)
+  next_byte h =
       ap (λ (m : ℕ). m * 256 + get_or l i 0) is
       ∙ sym (last_byte (take i l) (get_or l i 0))
       ∙ ap from_bytes (sym (take-suc l i 0 h) ∙ ap (λ (k : ℕ). take k l) (sym (add-one i)))
@@ -46,8 +46,8 @@ module _ (l : List ℕ) (i n : ℕ) (is : n ≡ from_bytes (take i l)) where
       let most : 256 ^ length (take i l) ≤ 256 ^ 7 = pow-le-pow_right (lit< tt) {i = length (take i l)} {j = 7} (omega arith) in
       omega arith
 
-pub first-eight : (l : List ℕ) (i : ℕ) → i ≡ min 8 (length l) → take i l ≡ take 8 l
-first-eight l i e = go (leb (length l) 8) refl
+pub first_eight : (l : List ℕ) (i : ℕ) → i ≡ min 8 (length l) → take i l ≡ take 8 l
+first_eight l i e = go (leb (length l) 8) refl
   where
     go : (t : Bool) → leb (length l) 8 ≡ t → take i l ≡ take 8 l
     go true p = let h : length l ≤ 8 = leb-true (length l) 8 p in take_all i l (omega arith) ∙ sym (take_all 8 l h)

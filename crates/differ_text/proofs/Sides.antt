@@ -43,9 +43,9 @@ unfolding escaped
 escaped-append [] b = refl
 escaped-append (x ∷ a) b = ap (λ (y : List ℕ). escaped_byte x ++ y) (escaped-append a b) ∙ sym (append_assoc (escaped_byte x) (escaped a) (escaped b))
 
-pub escaped-one : (b : ℕ) → escaped_byte b ≡ escaped (b ∷ [])
+pub escaped_one : (b : ℕ) → escaped_byte b ≡ escaped (b ∷ [])
 unfolding escaped
-escaped-one b = sym (append-nil (escaped_byte b))
+escaped_one b = sym (append-nil (escaped_byte b))
 
 -- ---- a value, by its kind
 
@@ -70,26 +70,26 @@ module _ (b : List ℕ) (t : Told) where
   by_state : (s : ℕ) → Answer
   by_state s = cond (eqb s VALUE) (value t.kind (take t.len (drop t.at b))) (cond (eqb s UNKNOWN) unknown (cond (eqb s ABSENT) absent refused))
 
-  meant-by : meant b t ≡ by_state t.state
+  meant_by : meant b t ≡ by_state t.state
   unfolding meant by_state
-  meant-by = refl
+  meant_by = refl
 
   pub value-meant : t.state ≡ VALUE → meant b t ≡ value t.kind (take t.len (drop t.at b))
   unfolding by_state
-  value-meant e = meant-by ∙ ap by_state e
+  value-meant e = meant_by ∙ ap by_state e
 
   pub unknown-meant : t.state ≡ UNKNOWN → meant b t ≡ unknown
   unfolding by_state
-  unknown-meant e = meant-by ∙ ap by_state e
+  unknown-meant e = meant_by ∙ ap by_state e
 
   pub absent_meant : t.state ≡ ABSENT → meant b t ≡ absent
   unfolding by_state
-  absent_meant e = meant-by ∙ ap by_state e
+  absent_meant e = meant_by ∙ ap by_state e
 
   pub refused-meant : t.state ≢ VALUE → t.state ≢ UNKNOWN → t.state ≢ ABSENT → meant b t ≡ refused
   unfolding by_state
   refused-meant v u a =
-      meant-by
+      meant_by
       ∙ ap (λ (x : Bool). cond x (value t.kind (take t.len (drop t.at b))) (cond (eqb t.state UNKNOWN) unknown (cond (eqb t.state ABSENT) absent refused))) (ne_eqb t.state VALUE v)
       ∙ ap₂ (λ (x y : Bool). cond x unknown (cond y absent refused)) (ne_eqb t.state UNKNOWN u) (ne_eqb t.state ABSENT a)
 

@@ -21,7 +21,7 @@ use Rattle.bundle_format.specs.Reader.{end_of, rows_of, right_size, well_formed,
 use Rattle.differ.specs.Difference.{Line, listed, numbers, numbers_of, compare_code, Compares}
 use Rattle.differ.specs.Promises.{In, here, there}
 use Rattle.differ.specs.declared.Compared.{Compared}
-use Rattle.differ.proofs.Theorems.{at_most, refused-first, refused-second}
+use Rattle.differ.proofs.Theorems.{at_most, refused_first, refused-second}
 use Rattle.differ_text.specs.Rendered.{line_text, lines_text, closing_line, refusal_line, refusal_lines, first_words, second_words, output_of}
 use Rattle.differ_text.specs.Pieces.{told_at, line_at, piece_of, written_from}
 use Rattle.differ_text.proofs.Accepted.{line_short}
@@ -144,4 +144,4 @@ whole key b c rows a e bytes bytes' room compares = go (eqb (read_code 2 key b) 
         ∙ from a e b c (omega (arith, compares.counts, at_most key b c)) (listed key b c) 0 (drop (9 * length (listed key b c)) rows) (compares.first ∙ f) (compares.second ∙ g) (zero-add (length (listed key b c)) ∙ sym compares.counts) (compares.leaves ∙ if_done_lem (compare_code key b c (length rows)) _ rows (accepted x y)) (λ l i. line_short key b c l bytes bytes' f g i)
         ∙ ap (λ (n : ℕ). lines_text b c (listed key b c) ++ closing_line n) compares.counts
     go true x false y = refused-piece (ap₂ ◌&&◌ x y) (compares.counts ∙ ap length (refused-second key b c (eqb-false (read_code 2 key c) 0 y)))
-    go false x u y = refused-piece (ap (λ (t : Bool). t && eqb (read_code 2 key c) 0) x) (compares.counts ∙ ap length (refused-first key b c (eqb-false (read_code 2 key b) 0 x)))
+    go false x u y = refused-piece (ap (λ (t : Bool). t && eqb (read_code 2 key c) 0) x) (compares.counts ∙ ap length (refused_first key b c (eqb-false (read_code 2 key b) 0 x)))

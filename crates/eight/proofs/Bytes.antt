@@ -10,9 +10,9 @@ use Rattle.published.specs.Bytes.{Bytes}
 use Rattle.published.specs.Blocks.{each_of, all_of, joined}
 use Rattle.published.specs.Seen.{Order, read_in, write_in, seen}
 use Rattle.published.specs.Gift128.{rounds_all}
-use Rattle.published.proofs.Gift128.{rounds-all-lt}
+use Rattle.published.proofs.Gift128.{rounds_all_lt}
 use Rattle.published.proofs.Reading.{bytes_take, bytes_drop}
-use Rattle.published.proofs.Groups.{joined-put, joined_cong, each-joined}
+use Rattle.published.proofs.Groups.{joined-put, joined_cong, each_joined}
 use Rattle.published.proofs.Seen.{orders}
 use Rattle.primitives.specs.declared.State.{State}
 use Rattle.primitives.specs.Packed.{block_of, state_of}
@@ -24,9 +24,9 @@ use Rattle.eight.specs.declared.Lanes.{Lanes}
 use Rattle.eight.specs.Inner.{lane_at, Holds, Each, rewritten, arriving, leaving, forty}
 
 -- the block of lane n was put: those before the next are
-pub put-more : (g : ℕ → List ℕ) (out new rest : List ℕ) (n : ℕ) → 16 * n ≤ length out → length new ≡ 16 → take (16 * n) out ≡ joined n g → new ≡ g n
+pub put_more : (g : ℕ → List ℕ) (out new rest : List ℕ) (n : ℕ) → 16 * n ≤ length out → length new ≡ 16 → take (16 * n) out ≡ joined n g → new ≡ g n
     → take (16 * (n + 1)) (take (16 * n) out ++ (new ++ rest)) ≡ joined (n + 1) g
-put-more g out new rest n h len before here =
+put_more g out new rest n h len before here =
     let at : 16 * (n + 1) ≡ 16 * n + 16 = omega arith in
     ap (λ (k : ℕ). take k (take (16 * n) out ++ (new ++ rest))) at ∙ joined-put 16 g out new rest n h len before here ∙ ap (λ (k : ℕ). joined k g) (sym (add-one n))
 
@@ -51,12 +51,12 @@ out_of_order zero y y-lt t u e f =
     ∙ o.again out sixteen ((orders 0).bytes y)
 out_of_order (suc _) y y-lt t u e f = ap (λ (z : State). write_in 1 (block_of z)) (f ∙ e) ∙ ap (write_in 1) (block_of_state_of y y-lt)
 
-through-lane : (order : ℕ) (back : Bool) (ws bs : List ℕ) → length bs ≡ 16 → Bytes bs → (r s t u : State)
+through_lane : (order : ℕ) (back : Bool) (ws bs : List ℕ) → length bs ≡ 16 → Bytes bs → (r s t u : State)
     → r ≡ packed 1 bs → s ≡ arriving order r → t ≡ forty back ws s → u ≡ leaving order t → write_in 1 (block_of u) ≡ seen order (rounds_all back (pairs_from 0 ws)) bs
-through-lane order back ws bs len h r s t u e f g k =
+through_lane order back ws bs len h r s t u e f g k =
     let y : ℕ = read_in order bs in
     let y-lt : y < 2 ^ 128 = (orders order).block bs len h in
-    out_of_order order (rounds_all back (pairs_from 0 ws) y) (rounds-all-lt back (pairs_from 0 ws) y y-lt) t u
+    out_of_order order (rounds_all back (pairs_from 0 ws) y) (rounds_all_lt back (pairs_from 0 ws) y y-lt) t u
     (g ∙ ap (forty back ws) (in_order order bs len h r s e f) ∙ ap (λ (z : ℕ). state_of (rounds_all back (pairs_from 0 ws) z)) (block_of_state_of y y-lt)) k
 
 -- ---- four blocks
@@ -70,7 +70,7 @@ four_are order back ws input e s t len h takes goes gives =
     gives
     ∙ joined_cong 4 _ _
     (λ k l.
-    through-lane order back ws (take 16 (drop (16 * k) input)) (simp (length-take, length-drop) (omega arith)) (bytes_take 16 (drop (16 * k) input) (bytes_drop (16 * k) input h))
+    through_lane order back ws (take 16 (drop (16 * k) input)) (simp (length-take, length-drop) (omega arith)) (bytes_take 16 (drop (16 * k) input) (bytes_drop (16 * k) input h))
     _ (lane_at s k) (lane_at t k) _ refl (takes.lane k l) (goes.lane k l) refl)
-    ∙ sym (each-joined 16 (seen order (rounds_all back (pairs_from 0 ws))) 4 input)
+    ∙ sym (each_joined 16 (seen order (rounds_all back (pairs_from 0 ws))) 4 input)
     ∙ ap (λ (n : ℕ). each_of 16 (seen order (rounds_all back (pairs_from 0 ws))) n input) four

@@ -13,7 +13,7 @@ use Rattle.published.proofs.Seen.{placed}
 use Rattle.primitives.specs.declared.State.{State}
 use Rattle.primitives.specs.Words.{swapped_low, swapped_high}
 use Rattle.primitives.specs.Packed.{word_of, block_of, state_of, Words}
-use Rattle.primitives.proofs.Blocks.{same-words, words-at}
+use Rattle.primitives.proofs.Blocks.{same_words, words_at}
 use Rattle.eight.specs.Inner.{crossed}
 
 abbrev pub bit_at : State → ℕ → Bool
@@ -108,11 +108,11 @@ module _ (s : State) where
       ap (λ (w : ℕ). bit w (p % 32)) (four (λ (j : ℕ). word_of (middled s) j ≡ word_of s (2 * (j % 2) + j / 2)) refl refl refl refl (p / 32) (omega arith))
       ∙ sym (at_place s (middle_at p) (2 * (p / 32 % 2) + p / 32 / 2) (p % 32) (omega arith) (omega arith))
 
-pub from-flip : (σ : ℕ → ℕ) (s x : State) → From σ s x → From (λ p. σ (flip_at p)) s (flipped x)
-from-flip σ s x before = record { bits = λ p h. bit-flipped x p h ∙ before.bits (flip_at p) (bounded 128 128 flip_at tt p h) }
+pub from_flip : (σ : ℕ → ℕ) (s x : State) → From σ s x → From (λ p. σ (flip_at p)) s (flipped x)
+from_flip σ s x before = record { bits = λ p h. bit-flipped x p h ∙ before.bits (flip_at p) (bounded 128 128 flip_at tt p h) }
 
-pub from-middle : (σ : ℕ → ℕ) (s x : State) → From σ s x → From (λ p. σ (middle_at p)) s (middled x)
-from-middle σ s x before = record { bits = λ p h. bit-middled x p h ∙ before.bits (middle_at p) (bounded 128 128 middle_at tt p h) }
+pub from_middle : (σ : ℕ → ℕ) (s x : State) → From σ s x → From (λ p. σ (middle_at p)) s (middled x)
+from_middle σ s x before = record { bits = λ p h. bit-middled x p h ∙ before.bits (middle_at p) (bounded 128 128 middle_at tt p h) }
 
 pub from_itself : (s : State) → From (λ p. p) s s
 from_itself s = record { bits = λ p h. refl }
@@ -123,9 +123,9 @@ abbrev pub as_places : (ℕ → ℕ) → ℕ → ℕ
 as_places π p = 32 * (π (4 * (p % 32) + p / 32) % 4) + π (4 * (p % 32) + p / 32) / 4
 
 module _ (π σ : ℕ → ℕ) (t : T (below 128 (λ p. eqb (σ p) (as_places π p)))) (u : T (below 128 (λ q. ltb (π q) 128))) (s r : State) (h : Words r) (from : From σ s r) where
-  bit-of-block : (q : ℕ) → q < 128 → bit (block_of s) q ≡ bit (word_of s (q % 4)) (q / 4)
+  bit_of_block : (q : ℕ) → q < 128 → bit (block_of s) q ≡ bit (word_of s (q % 4)) (q / 4)
   unfolding block_of
-  bit-of-block q l = bit-from_words (word_of s) q l
+  bit_of_block q l = bit-from_words (word_of s) q l
 
   same_bit : (j i : ℕ) → j < 4 → i < 32 → bit (word_of r j) i ≡ bit (word 128 (placed π (block_of s)) j) i
   same_bit j i hj hi =
@@ -138,11 +138,11 @@ module _ (π σ : ℕ → ℕ) (t : T (below 128 (λ p. eqb (σ p) (as_places π
       sym (at_place r p j i high low) ∙ from.bits p hp ∙ ap (bit_at s) (agree 128 σ (as_places π) t p hp)
       ∙ ap₂ (λ (a b : ℕ). bit_at s (32 * (π (4 * a + b) % 4) + π (4 * a + b) / 4)) low high
       ∙ at_place s (32 * (q % 4) + q / 4) (q % 4) (q / 4) (omega arith) (omega arith)
-      ∙ sym (bit_word (placed π (block_of s)) j i hi ∙ bit_of_bits 128 (λ q. bit (block_of s) (π q)) (4 * i + j) (omega arith) ∙ bit-of-block q hq)
+      ∙ sym (bit_word (placed π (block_of s)) j i hi ∙ bit_of_bits 128 (λ q. bit (block_of s) (π q)) (4 * i + j) (omega arith) ∙ bit_of_block q hq)
 
   same_word : (j : ℕ) → j < 4 → word_of r j ≡ word 128 (placed π (block_of s)) j
-  same_word j hj = bit_ext 32 (word_of r j) (word 128 (placed π (block_of s)) j) (words-at r h j hj) (word_lt (placed π (block_of s)) j) (λ i hi. same_bit j i hj hi)
+  same_word j hj = bit_ext 32 (word_of r j) (word 128 (placed π (block_of s)) j) (words_at r h j hj) (word_lt (placed π (block_of s)) j) (λ i hi. same_bit j i hj hi)
 
-  pub from-order : r ≡ state_of (placed π (block_of s))
+  pub from_order : r ≡ state_of (placed π (block_of s))
   unfolding state_of
-  from-order = same-words r (state_of (placed π (block_of s))) (same_word 0 (lit< tt)) (same_word 1 (lit< tt)) (same_word 2 (lit< tt)) (same_word 3 (lit< tt))
+  from_order = same_words r (state_of (placed π (block_of s))) (same_word 0 (lit< tt)) (same_word 1 (lit< tt)) (same_word 2 (lit< tt)) (same_word 3 (lit< tt))

@@ -27,10 +27,10 @@ words-passed words block e =
     (eqb-true words 80 p1.0, eqb-true block 16 p2.0)
 
 -- eighty words and sixteen bytes in an order that there is are not refused
-pub not-refused : (order : ℕ) (ws block : List ℕ) {new left : List ℕ} {r : ℕ} → is_order order ≡ true → length ws ≡ 80 → length block ≡ 16
+pub not_refused : (order : ℕ) (ws block : List ℕ) {new left : List ℕ} {r : ℕ} → is_order order ≡ true → length ws ≡ 80 → length block ≡ 16
     → Gives (order_code order (words_code (length ws) (length block))) new block r left → (r ≡ 0) × (left ≡ new)
 unfolding order_code words_code block_code
-not-refused order ws block o w b g = (g.is ∙ (rw (o, w, b)), g.leaves ∙ (rw (o, w, b)))
+not_refused order ws block o w b g = (g.is ∙ (rw (o, w, b)), g.leaves ∙ (rw (o, w, b)))
 
 pub many-words-passed : (words input output : ℕ) → many_words_code words input output ≡ 0 → (words ≡ 80) × (input % 16 ≡ 0) × (output ≡ input)
 unfolding many_words_code
@@ -41,7 +41,7 @@ many-words-passed words input output e =
     (eqb-true words 80 p1.0, eqb-true (input % 16) 0 p2.0, eqb-true output input p3.0)
 
 -- where the words are eighty, as a `Gift128` keeps them, only the block's length is refused
-pub by-its-own : (order : ℕ) (ws block : List ℕ) {new : List ℕ} {r : ℕ} {e : List ℕ} → length ws ≡ 80 → Gives (order_code order (words_code (length ws) (length block))) new block r e
+pub by_its_own : (order : ℕ) (ws block : List ℕ) {new : List ℕ} {r : ℕ} {e : List ℕ} → length ws ≡ 80 → Gives (order_code order (words_code (length ws) (length block))) new block r e
     → Gives (order_code order (block_code (length block))) new block r e
 unfolding words_code
-by-its-own order ws block {new} {r} {e} w g = rw (ap (λ (t : Bool). unless t BAD_WORD_COUNT (block_code (length block))) (eq-eqb (length ws) 80 w)) at g
+by_its_own order ws block {new} {r} {e} w g = rw (ap (λ (t : Bool). unless t BAD_WORD_COUNT (block_code (length block))) (eq-eqb (length ws) 80 w)) at g

@@ -12,18 +12,18 @@ use Rattle.published.specs.Bytes.{Bytes}
 use Rattle.published.specs.Seen.{is_order, read_in, write_in, seen}
 use Rattle.published.specs.Rounds.{Pair}
 use Rattle.published.specs.Gift128.{pairs_of, rounds128, rounds_all}
-use Rattle.published.proofs.Gift128.{rounds-all-lt}
+use Rattle.published.proofs.Gift128.{rounds_all_lt}
 use Rattle.published.proofs.Seen.{orders}
 use Rattle.primitives.specs.Packed.{block_of, state_of}
 use Rattle.primitives.specs.declared.State.{State}
 use Rattle.primitives.proofs.Blocks.{block_of_state_of}
 use Rattle.round_words.specs.Arranged.{pairs_from}
-use Rattle.round_words.proofs.Keeping.{first-pair}
+use Rattle.round_words.proofs.Keeping.{first_pair}
 use Rattle.packing.specs.Packing.{packed, unpacked}
 use Rattle.packing.proofs.Inverse.{packed-block, unpacked-block}
 use Rattle.quintuple.specs.Quintuple.{first_round}
 use Rattle.key_schedule.specs.Expand.{expand_code, expanded}
-use Rattle.key_schedule.proofs.Expanded.{pairs-of-expanded, length-expanded}
+use Rattle.key_schedule.proofs.Expanded.{pairs_of_expanded, length-expanded}
 use Rattle.gift128.specs.Calls.{rounds_by}
 
 -- what f does to the state, the call does to the bytes, seen through their order
@@ -41,11 +41,11 @@ module _ (order : ℕ) (o : is_order order ≡ true) where
   pub crossing : (back : Bool) (ws : List ℕ) (s t : State) (input output e : List ℕ) → length input ≡ 16 → Bytes input → length output ≡ 16
       → s ≡ packed order input → t ≡ state_of (rounds_by back ws (block_of s)) → e ≡ unpacked order t output → e ≡ seen order (rounds_by back ws) input
   crossing back ws s t input output e len h len' packs goes unpacks =
-      through (rounds_by back ws) s t input output e (rounds-all-lt back (pairs_from 0 ws)) len h len' packs goes unpacks
+      through (rounds_by back ws) s t input output e (rounds_all_lt back (pairs_from 0 ws)) len h len' packs goes unpacks
 
 -- by the words of a key it is the published cipher
 pub crossed-key : (order : ℕ) (back : Bool) (key block : List ℕ) → seen order (rounds_by back (expanded key)) block ≡ seen order (rounds_all back (pairs_of key)) block
-crossed-key order back key block = ap (λ (ps : List Pair). seen order (rounds_all back ps) block) (pairs-of-expanded key)
+crossed-key order back key block = ap (λ (ps : List Pair). seen order (rounds_all back ps) block) (pairs_of_expanded key)
 
 -- eighty zeros lent to expansion by a good key become the key's words
 pub filled : (key : List ℕ) → length key ≡ 16 → if_done (expand_code (length key) 80) (expanded key) (replicate 80 0) ≡ expanded key
@@ -53,8 +53,8 @@ unfolding expand_code
 filled key k = rw k
 
 -- round 1 by the words of a key
-pub first-of-key : (key : List ℕ) (s : State) → first_round s (expanded key) ≡ state_of (rounds128 (take 1 (pairs_of key)) 0 (block_of s))
+pub first_of_key : (key : List ℕ) (s : State) → first_round s (expanded key) ≡ state_of (rounds128 (take 1 (pairs_of key)) 0 (block_of s))
 unfolding first_round
-first-of-key key s =
+first_of_key key s =
     cond-true _ _ _ (le-leb 2 (length (expanded key)) (rw length-expanded (lit≤ tt)))
-    ∙ ap (λ (ps : List Pair). state_of (rounds128 ps 0 (block_of s))) (first-pair (expanded key) ∙ ap (take 1) (pairs-of-expanded key))
+    ∙ ap (λ (ps : List Pair). state_of (rounds128 ps 0 (block_of s))) (first_pair (expanded key) ∙ ap (take 1) (pairs_of_expanded key))

@@ -15,20 +15,20 @@ module _ (back : Bool) (order : ℕ) (key words block input output : List ℕ) w
   pub by_key : OneOutcome (CiphersByKeyIn back order key block)
   by_key = one_outcome _ _ _
 
-  pub by-words : OneOutcome (CiphersByWordsIn back order words block)
-  by-words = one_outcome _ _ _
+  pub by_words : OneOutcome (CiphersByWordsIn back order words block)
+  by_words = one_outcome _ _ _
 
   pub blocks : OneOutcome (CiphersBlocksIn back order key input output)
   blocks = one_outcome _ _ _
 
-  pub blocks-by-words : OneOutcome (CiphersBlocksByWordsIn back order words input output)
-  blocks-by-words = one_outcome _ _ _
+  pub blocks_by_words : OneOutcome (CiphersBlocksByWordsIn back order words input output)
+  blocks_by_words = one_outcome _ _ _
 
-  pub one-round : OneOutcome (MakesOneRound key block)
-  one-round = one_outcome _ _ _
+  pub one_round : OneOutcome (MakesOneRound key block)
+  one_round = one_outcome _ _ _
 
   pub new : OneOutcome (Expands key (replicate 80 0))
   new = one_outcome _ _ _
 
-  pub block-by-its-own : OneOutcome (CiphersBlockIn back order words block)
-  block-by-its-own = one_outcome _ _ _
+  pub block_by_its_own : OneOutcome (CiphersBlockIn back order words block)
+  block_by_its_own = one_outcome _ _ _

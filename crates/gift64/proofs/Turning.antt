@@ -17,11 +17,11 @@ use Rattle.published.proofs.Words.{four}
 use Rattle.primitives.specs.declared.State.{State}
 use Rattle.primitives.specs.Words.{permuted}
 use Rattle.primitives.specs.Packed.{word_of, Words}
-use Rattle.primitives.proofs.Moves.{bit-permuted, permuted-lt, permuted-id, permuted-then}
-use Rattle.primitives.proofs.Blocks.{same-words}
+use Rattle.primitives.proofs.Moves.{bit-permuted, permuted-lt, permuted-id, permuted_then}
+use Rattle.primitives.proofs.Blocks.{same_words}
 use Rattle.quintuple.specs.Boxes.{substituted, boxed}
 use Rattle.quintuple.specs.Inner.{exchanged_of}
-use Rattle.quintuple.proofs.Sliced.{block_at_lt, key_word, key-bits, sliced_round, back-again, xor-twice}
+use Rattle.quintuple.proofs.Sliced.{block_at_lt, key_word, key-bits, sliced_round, back_again, xor-twice}
 use Rattle.quintuple.proofs.Fixslice.{constant-lt}
 use Rattle.gift64.specs.Inner.{place, block_in, move, moved_by, keyed_of, subround, unsubround, pair_in, constant_word}
 
@@ -35,9 +35,9 @@ place_twice k n hk hn = eqb→eq (place k (place k n)) n (at 16 (λ n. eqb (plac
 
 module _ (k j : ℕ) (hk : k < 2) (hj : j < 4) where
   -- moved to the place of nibble n is what stood at its source's
-  moved-from : (n : ℕ) → n < 16 → move k j (place (1 - k) n) ≡ place k (back 64 (4 * n + j) / 4)
+  moved_from : (n : ℕ) → n < 16 → move k j (place (1 - k) n) ≡ place k (back 64 (4 * n + j) / 4)
   unfolding move
-  moved-from n hn =
+  moved_from n hn =
       eqb→eq (move k j (place (1 - k) n)) (place k (back 64 (4 * n + j) / 4))
       (at 16 (λ n. eqb (move k j (place (1 - k) n)) (place k (back 64 (4 * n + j) / 4)))
       (at 4 (λ j. below 16 (λ n. eqb (move k j (place (1 - k) n)) (place k (back 64 (4 * n + j) / 4))))
@@ -59,10 +59,10 @@ module _ (k j : ℕ) (hk : k < 2) (hj : j < 4) where
       (at 4 (λ j. below 32 (λ i. ltb (move k j i) 32)) (at 2 (λ k. below 4 (λ j. below 32 (λ i. ltb (move k j i) 32))) tt k hk) j hj) i hi)
 
   moved_twice : (x : ℕ) → x < 2 ^ 32 → permuted (move k j) (permuted (move k j) x) ≡ x
-  moved_twice x h = permuted-then (move k j) (move k j) x move-lt ∙ permuted-id (λ i. move k j (move k j i)) x move-twice h
+  moved_twice x h = permuted_then (move k j) (move k j) x move-lt ∙ permuted-id (λ i. move k j (move k j i)) x move-twice h
 
-other-lt : (k : ℕ) → 1 - k < 2
-other-lt k = omega arith
+other_lt : (k : ℕ) → 1 - k < 2
+other_lt k = omega arith
 
 -- ---- a round
 
@@ -79,8 +79,8 @@ module _ (k : ℕ) (hk : k < 2) (s : State) (w c r : ℕ) (hr : r < 64) (carries
 
   moved-bit : (n j : ℕ) → n < 16 → j < 4 → bit (permuted (move k j) (substituted entry s j)) (place (1 - k) n) ≡ bit (substituted entry s j) (place k (back 64 (4 * n + j) / 4))
   moved-bit n j hn hj =
-      bit-permuted (move k j) (substituted entry s j) (place (1 - k) n) (lt_of_lt_of_le (place-lt (1 - k) n (other-lt k) hn) (lit≤ tt))
-      ∙ ap (bit (substituted entry s j)) (moved-from k j hk hj n hn)
+      bit-permuted (move k j) (substituted entry s j) (place (1 - k) n) (lt_of_lt_of_le (place-lt (1 - k) n (other_lt k) hn) (lit≤ tt))
+      ∙ ap (bit (substituted entry s j)) (moved_from k j hk hj n hn)
 
   v-bit : (n : ℕ) → n < 16 → bit w (place (1 - k) n) ≡ bit p.v n
   unfolding pair_in
@@ -102,9 +102,9 @@ module _ (k : ℕ) (hk : k < 2) (s : State) (w c r : ℕ) (hr : r < 64) (carries
       (bit-xor (permuted (move k 3) (substituted entry s 3)) c (place (1 - k) n) ∙ ap₂ ◌⊕◌ (moved-bit n 3 hn (lit< tt)) (carries n hn))
       j hj
 
-  subround-is-round : block_in (1 - k) t ≡ round 64 0 p r (block_in k s)
+  subround_is_round : block_in (1 - k) t ≡ round 64 0 p r (block_in k s)
   unfolding block_in
-  subround-is-round =
+  subround_is_round =
       sliced_round 64 width64 (place k) (place (1 - k)) (λ n h. lt_of_lt_of_le (place-lt k n hk h) (lit≤ tt)) s t 0 p r
       (λ n j hn hj.
       word-bit n j hn hj
@@ -113,19 +113,19 @@ module _ (k : ℕ) (hk : k < 2) (s : State) (w c r : ℕ) (hr : r < 64) (carries
 -- ---- and undone
 
 module _ (k : ℕ) (hk : k < 2) where
-  moved-again : (s : State) → Words s → moved_by k (moved_by k s) ≡ s
+  moved_again : (s : State) → Words s → moved_by k (moved_by k s) ≡ s
   unfolding moved_by
-  moved-again s h =
-      same-words _ _ (moved_twice k 0 hk (lit< tt) s.s0 h.0) (moved_twice k 1 hk (lit< tt) s.s1 h.1) (moved_twice k 2 hk (lit< tt) s.s2 h.2)
+  moved_again s h =
+      same_words _ _ (moved_twice k 0 hk (lit< tt) s.s0 h.0) (moved_twice k 1 hk (lit< tt) s.s1 h.1) (moved_twice k 2 hk (lit< tt) s.s2 h.2)
       (moved_twice k 3 hk (lit< tt) s.s3 h.3)
 
   moved-words : (s : State) → Words (moved_by k s)
   unfolding moved_by
   moved-words s = (permuted-lt (move k 0) s.s0, permuted-lt (move k 1) s.s1, permuted-lt (move k 2) s.s2, permuted-lt (move k 3) s.s3)
 
-  boxed-again : (m : State) → Words m → exchanged_of (boxed entry (exchanged_of (boxed unentry m))) ≡ m
+  boxed_again : (m : State) → Words m → exchanged_of (boxed entry (exchanged_of (boxed unentry m))) ≡ m
   unfolding boxed
-  boxed-again m h = same-words _ _ (back-again m h 0 (lit< tt)) (back-again m h 1 (lit< tt)) (back-again m h 2 (lit< tt)) (back-again m h 3 (lit< tt))
+  boxed_again m h = same_words _ _ (back_again m h 0 (lit< tt)) (back_again m h 1 (lit< tt)) (back_again m h 2 (lit< tt)) (back_again m h 3 (lit< tt))
 
   module _ (s : State) (w c : ℕ) (hs : Words s) (hw : w < 2 ^ 32) (hc : c < 2 ^ 32) where
     upper_lt : w / 2 ^ 16 < 2 ^ 32
@@ -137,9 +137,9 @@ module _ (k : ℕ) (hk : k < 2) where
     redone : subround k (unsubround k s w c) w c ≡ s
     unfolding subround unsubround
     redone =
-        ap (λ (x : State). keyed_of (moved_by k x) w c) (boxed-again (moved_by k (keyed_of s w c)) (moved-words (keyed_of s w c)))
-        ∙ ap (λ (x : State). keyed_of x w c) (moved-again (keyed_of s w c) keyed-words)
-        ∙ same-words _ _ (xor-twice s.s0 w hs.0 hw) (xor-twice s.s1 (w / 2 ^ 16) hs.1 upper_lt) refl (xor-twice s.s3 c hs.3 hc)
+        ap (λ (x : State). keyed_of (moved_by k x) w c) (boxed_again (moved_by k (keyed_of s w c)) (moved-words (keyed_of s w c)))
+        ∙ ap (λ (x : State). keyed_of x w c) (moved_again (keyed_of s w c) keyed-words)
+        ∙ same_words _ _ (xor-twice s.s0 w hs.0 hw) (xor-twice s.s1 (w / 2 ^ 16) hs.1 upper_lt) refl (xor-twice s.s3 c hs.3 hc)
 
 pub undone-words : (k : ℕ) (s : State) (w c : ℕ) {t : State} → t ≡ unsubround k s w c → Words t
 unfolding unsubround boxed substituted
@@ -158,17 +158,17 @@ module _ (k r : ℕ) (hk : k < 2) (leads : suc r % 2 ≡ 1 - k) (s : State) (w :
   carried : (n : ℕ) → n < 16 → bit (constant_word r) (place (1 - k) n) ≡ bit (2 ^ 15 + constant (suc r)) n
   carried n hn = ap (λ (m : ℕ). bit (constant_word r) (place m n)) (sym leads) ∙ constant-carried r n hn
 
-  pub round-on : block_in (1 - k) (subround k s w (constant_word r)) ≡ round 64 0 (pair_in (suc r % 2) w) (constant (suc r)) (block_in k s)
-  round-on =
-      subround-is-round k hk s w (constant_word r) (constant (suc r)) (constant-lt (suc r)) carried
+  pub round_on : block_in (1 - k) (subround k s w (constant_word r)) ≡ round 64 0 (pair_in (suc r % 2) w) (constant (suc r)) (block_in k s)
+  round_on =
+      subround_is_round k hk s w (constant_word r) (constant (suc r)) (constant-lt (suc r)) carried
       ∙ ap (λ (m : ℕ). round 64 0 (pair_in m w) (constant (suc r)) (block_in k s)) (sym leads)
 
-  pub unround-on : Words s → w < 2 ^ 32 → constant_word r < 2 ^ 32
+  pub unround_on : Words s → w < 2 ^ 32 → constant_word r < 2 ^ 32
       → block_in k (unsubround k s w (constant_word r)) ≡ unround 64 0 (pair_in (suc r % 2) w) (constant (suc r)) (block_in (1 - k) s)
-  unround-on hs hw hc =
+  unround_on hs hw hc =
       let z : State = unsubround k s w (constant_word r) in
       let q : Pair = pair_in (1 - k) w in
       sym (unround-round 64 0 width64 q (constant (suc r)) (block_in k z) (block_in-lt k z))
       ∙ ap (unround 64 0 q (constant (suc r)))
-      (sym (subround-is-round k hk z w (constant_word r) (constant (suc r)) (constant-lt (suc r)) carried) ∙ ap (block_in (1 - k)) (redone k hk s w (constant_word r) hs hw hc))
+      (sym (subround_is_round k hk z w (constant_word r) (constant (suc r)) (constant-lt (suc r)) carried) ∙ ap (block_in (1 - k)) (redone k hk s w (constant_word r) hs hw hc))
       ∙ ap (λ (m : ℕ). unround 64 0 (pair_in m w) (constant (suc r)) (block_in (1 - k) s)) (sym leads)

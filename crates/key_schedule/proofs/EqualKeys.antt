@@ -11,7 +11,7 @@ use Rattle.published.specs.Bytes.{from_bytes, to_bytes, Bytes}
 use Rattle.published.specs.Rounds.{Pair}
 use Rattle.published.specs.Key.{◌‖◌, update, pairs}
 use Rattle.published.specs.Gift128.{pair_of, pairs_of}
-use Rattle.published.proofs.Reading.{to-from}
+use Rattle.published.proofs.Reading.{to_from}
 use Rattle.published.proofs.Gift128.{block-lt}
 use Rattle.key_schedule.proofs.KeyState.{one_on}
 
@@ -56,19 +56,19 @@ module _ (x y : ℕ) (same : pairs pair_of 40 x ≡ pairs pair_of 40 y) where
   v2 : k 3 ‖ k 2 ≡ l 3 ‖ l 2
   v2 = ap (λ (p : Pair). p.v) (sym (one_on x) ∙ second ∙ one_on y)
 
-  pub same-state : x < 2 ^ 128 → y < 2 ^ 128 → x ≡ y
+  pub same_state : x < 2 ^ 128 → y < 2 ^ 128 → x ≡ y
   unfolding number
-  same-state hx hy =
+  same_state hx hy =
       sym (number-digit 65536 (lit< tt) 8 x hx)
       ∙ rw ((two 7 6 u2).0, (two 7 6 u2).1, (two 5 4 u1).0, (two 5 4 u1).1, (two 3 2 v2).0, (two 3 2 v2).1, (two 1 0 v1).0, (two 1 0 v1).1) (number-digit 65536 (lit< tt) 8 y hy)
 
 module _ (key key' : List ℕ) (len : length key ≡ 16) (len' : length key' ≡ 16) (bytes : Bytes key) (bytes' : Bytes key') where
   whole : (bs : List ℕ) → length bs ≡ 16 → Bytes bs → to_bytes 16 (from_bytes bs) ≡ bs
-  whole bs n h = ap (λ (k : ℕ). to_bytes k (from_bytes bs)) (sym n) ∙ to-from bs h
+  whole bs n h = ap (λ (k : ℕ). to_bytes k (from_bytes bs)) (sym n) ∙ to_from bs h
 
   pub equal_pairs_equal_keys : pairs_of key ≡ pairs_of key' → key ≡ key'
   unfolding pairs_of
   equal_pairs_equal_keys e =
       sym (whole key len bytes)
-      ∙ ap (to_bytes 16) (same-state (from_bytes key) (from_bytes key') e (block-lt key len bytes) (block-lt key' len' bytes'))
+      ∙ ap (to_bytes 16) (same_state (from_bytes key) (from_bytes key') e (block-lt key len bytes) (block-lt key' len' bytes'))
       ∙ whole key' len' bytes'

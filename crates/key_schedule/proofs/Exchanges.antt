@@ -11,7 +11,7 @@ use Rattle.primitives.proofs.Moves.{permuted-lt, permuted-id, permuted_cong}
 use Rattle.primitives.proofs.Swaps.{exchange}
 use Rattle.round_words.proofs.Exchanges.{Swap, came_from}
 use Rattle.key_schedule.specs.InnerHalves.{low_of, high_of, joined, in_both, swapped}
-use Rattle.key_schedule.proofs.Halves.{is_both, moves_both, both-then, joined-lt, low-lt, high_lt, joined-halves}
+use Rattle.key_schedule.proofs.Halves.{is_both, moves_both, both_then, joined-lt, low-lt, high_lt, joined-halves}
 
 -- a mask in both halves
 abbrev pub doubled : ℕ → ℕ
@@ -43,7 +43,7 @@ swaps_move (s ∷ ss) x t h =
     ap (swap_all ss) (moves_both σ (exchanging s) (and_left one (inside && swaps_ok ss) t) x h)
     ∙ swaps_move ss (in_both (permuted σ) x) (and_right inside (swaps_ok ss) rest)
     (joined-lt (permuted σ (low_of x)) (permuted σ (high_of x)) (permuted-lt σ (low_of x)) (permuted-lt σ (high_of x)))
-    ∙ both-then (came_from ss) σ x (bounded 32 32 (came_from ss) (and_left inside (swaps_ok ss) rest))
+    ∙ both_then (came_from ss) σ x (bounded 32 32 (came_from ss) (and_left inside (swaps_ok ss) rest))
 
 -- a row of exchanges is the move π in both halves, by the test
 pub swaps_are : (π : ℕ → ℕ) (ss : List Swap) → T (swaps_ok ss && below 32 (λ i. eqb (came_from ss i) (π i))) → (x : ℕ) → x < 2 ^ 64

@@ -16,7 +16,7 @@ use Rattle.key_schedule.specs.InnerTens.{Ten, first_words, five_rounds, five_lat
 use Rattle.key_schedule.specs.InnerTwenty.{joined_tens, in_both_tens, words_in}
 use Rattle.key_schedule.proofs.TenWords.{Small, small_five, small-later, small-further, words_in_lem, both_tens}
 use Rattle.key_schedule.proofs.KeyState.{u-lt, v-lt, four_of, four-later, ten-further, following, tens_of}
-use Rattle.key_schedule.proofs.KeyBytes.{first-words_are}
+use Rattle.key_schedule.proofs.KeyBytes.{first_words_are}
 use Rattle.key_schedule.proofs.Parts.{twenties}
 
 fit_pairs : (r k : ℕ) → Words32 (in_row (pairs pair_of r k))
@@ -30,9 +30,9 @@ pub fit_key : (key : List ℕ) → Words32 (in_row (pairs_of key))
 unfolding pairs_of
 fit_key key = fit_pairs 40 (from_bytes key)
 
-pub pairs-of-expanded : (key : List ℕ) → pairs_from 0 (expanded key) ≡ pairs_of key
+pub pairs_of_expanded : (key : List ℕ) → pairs_from 0 (expanded key) ≡ pairs_of key
 unfolding expanded
-pairs-of-expanded key = pairs-words 0 (pairs_of key) (lit< tt) (fit_key key)
+pairs_of_expanded key = pairs-words 0 (pairs_of key) (lit< tt) (fit_key key)
 
 pub length-expanded : (key : List ℕ) → length (expanded key) ≡ 80
 unfolding expanded pairs_of
@@ -61,7 +61,7 @@ pub twenties-expanded : (key : List ℕ) (t : Twenty) → length key ≡ 16 → 
 unfolding expanded pairs_of
 twenties-expanded key t len bytes e =
     let k : ℕ = from_bytes key in
-    let first : first_words key ≡ four_of k = first-words_are key len bytes in
+    let first : first_words key ≡ four_of k = first_words_are key len bytes in
     ap twenties e ∙ eight_tens (five_rounds (first_words key)) (five_rounds (five_later (first_words key))) (small_five (first_words key))
     ∙ ap₂ (λ (a b : Ten). words_of a ++ (words_of b ++ following 6 a b)) (ap five_rounds first) (ap five_rounds (ap five_later first ∙ sym (four-later k)))
     ∙ sym (tens_of 6 k)

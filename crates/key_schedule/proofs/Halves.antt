@@ -12,9 +12,9 @@ use borrow.Author.Tests.{ltb-true, ltb-false}
 use Rattle.bits.specs.Digit.{bit}
 use Rattle.bits.proofs.Bits.{bit_ext, bit_join_low, bit-mod, bit_shr}
 use Rattle.bits.proofs.Computed.{below, and_left, and_right, bounded}
-use Rattle.bits.proofs.Reflect.{W, atom, value, sized, tells, value-lt, bit-by_test}
+use Rattle.bits.proofs.Reflect.{W, atom, value, sized, tells, value-lt, bit_by_test}
 use Rattle.primitives.specs.Words.{permuted}
-use Rattle.primitives.proofs.Moves.{permuted-lt, permuted-then, bit-permuted}
+use Rattle.primitives.proofs.Moves.{permuted-lt, permuted_then, bit-permuted}
 use Rattle.key_schedule.specs.InnerHalves.{low_of, high_of, joined, in_both}
 
 -- ---- the halves
@@ -47,8 +47,8 @@ pub joined-halves : (x : ℕ) → joined (low_of x) (high_of x) ≡ x
 joined-halves x = omega arith
 
 -- f of a number's halves, where f gives words
-pub both-joined : (f : ℕ → ℕ) (low high : ℕ) → low < 2 ^ 32 → in_both f (joined low high) ≡ joined (f low) (f high)
-both-joined f low high h = ap₂ (λ (a b : ℕ). joined (f a) (f b)) (low-joined low high h) (high-joined low high h)
+pub both_joined : (f : ℕ → ℕ) (low high : ℕ) → low < 2 ^ 32 → in_both f (joined low high) ≡ joined (f low) (f high)
+both_joined f low high h = ap₂ (λ (a b : ℕ). joined (f a) (f b)) (low-joined low high h) (high-joined low high h)
 
 -- ---- moves
 
@@ -60,8 +60,8 @@ twice σ i = cond (ltb i 32) (σ i) (32 + σ (i - 32))
 abbrev pub is_both : (ℕ → ℕ) → W → Bool
 is_both σ e = below 32 (λ i. ltb (σ i) 32) && (sized (64 ∷ []) 64 e && tells (64 ∷ []) 64 e 64 (λ i. atom 0 (twice σ i)))
 
-bit-both : (σ : ℕ → ℕ) (x i : ℕ) → ((j : ℕ) → j < 32 → σ j < 32) → i < 64 → bit (in_both (permuted σ) x) i ≡ bit x (twice σ i)
-bit-both σ x i inside l = bit_join 32 (permuted σ (high_of x)) (permuted σ (low_of x)) i (permuted-lt σ (low_of x)) ∙ go (ltb i 32) refl
+bit_both : (σ : ℕ → ℕ) (x i : ℕ) → ((j : ℕ) → j < 32 → σ j < 32) → i < 64 → bit (in_both (permuted σ) x) i ≡ bit x (twice σ i)
+bit_both σ x i inside l = bit_join 32 (permuted σ (high_of x)) (permuted σ (low_of x)) i (permuted-lt σ (low_of x)) ∙ go (ltb i 32) refl
   where
     go : (t : Bool) → ltb i 32 ≡ t → cond t (bit (permuted σ (low_of x)) i) (bit (permuted σ (high_of x)) (i - 32)) ≡ bit x (cond t (σ i) (32 + σ (i - 32)))
     go true e =
@@ -80,11 +80,11 @@ moves_both σ e t x h =
     bit_ext 64 (value 64 (x ∷ []) e) (in_both (permuted σ) x)
     (value-lt (64 ∷ []) (x ∷ []) 64 (h, tt) e (and_left fits right rest))
     (joined-lt (permuted σ (low_of x)) (permuted σ (high_of x)) (permuted-lt σ (low_of x)) (permuted-lt σ (high_of x)))
-    (λ i l. bit-by_test (64 ∷ []) (x ∷ []) 64 (h, tt) e 64 (λ j. atom 0 (twice σ j)) (and_right fits right rest) i l
-    ∙ sym (bit-both σ x i (bounded 32 32 σ (and_left inside (fits && right) t)) l))
+    (λ i l. bit_by_test (64 ∷ []) (x ∷ []) 64 (h, tt) e 64 (λ j. atom 0 (twice σ j)) (and_right fits right rest) i l
+    ∙ sym (bit_both σ x i (bounded 32 32 σ (and_left inside (fits && right) t)) l))
 
 -- first σ in both halves, then π
-pub both-then : (π σ : ℕ → ℕ) (x : ℕ) → ((i : ℕ) → i < 32 → π i < 32) → in_both (permuted π) (in_both (permuted σ) x) ≡ in_both (permuted (λ i. σ (π i))) x
-both-then π σ x h =
-    both-joined (permuted π) (permuted σ (low_of x)) (permuted σ (high_of x)) (permuted-lt σ (low_of x))
-    ∙ ap₂ joined (permuted-then π σ (low_of x) h) (permuted-then π σ (high_of x) h)
+pub both_then : (π σ : ℕ → ℕ) (x : ℕ) → ((i : ℕ) → i < 32 → π i < 32) → in_both (permuted π) (in_both (permuted σ) x) ≡ in_both (permuted (λ i. σ (π i))) x
+both_then π σ x h =
+    both_joined (permuted π) (permuted σ (low_of x)) (permuted σ (high_of x)) (permuted-lt σ (low_of x))
+    ∙ ap₂ joined (permuted_then π σ (low_of x) h) (permuted_then π σ (high_of x) h)

@@ -19,7 +19,7 @@ use Rattle.published.specs.Gift128.{pair_of}
 use Rattle.published.proofs.Reading.{bit-from_bytes, from_bytes-lt, bytes_take}
 use Rattle.key_schedule.specs.InnerTens.{first_words}
 use Rattle.key_schedule.proofs.Halves.{bit_join}
-use Rattle.key_schedule.proofs.TenWords.{same-four}
+use Rattle.key_schedule.proofs.TenWords.{same_four}
 use Rattle.key_schedule.proofs.KeyState.{one_on, four_of}
 
 module _ (key : List ℕ) (len : length key ≡ 16) (bytes : Bytes key) where
@@ -66,15 +66,15 @@ module _ (key : List ℕ) (len : length key ≡ 16) (bytes : Bytes key) where
             let place : 16 * (2 * i + 1) + (j - 16) ≡ 32 * i + j = omega arith in
             bit-digit 16 (from_bytes key) (2 * i + 1) (j - 16) (omega arith) ∙ ap (bit (from_bytes key)) place
 
-    pub word-is : from_bytes (take 4 (drop (12 - 4 * i) key)) ≡ digit 65536 (from_bytes key) (2 * i + 1) ‖ digit 65536 (from_bytes key) (2 * i)
+    pub word_is : from_bytes (take 4 (drop (12 - 4 * i) key)) ≡ digit 65536 (from_bytes key) (2 * i + 1) ‖ digit 65536 (from_bytes key) (2 * i)
     unfolding four
-    word-is =
+    word_is =
         bit_ext 32 (from_bytes four) _ (rw four-len at (from_bytes-lt four four_bytes)) (digits_lt (half_lt (2 * i + 1)) (half_lt (2 * i)))
         (λ j h. bit-four j h ∙ sym (bit-halves j h))
 
-  pub first-words_are : first_words key ≡ four_of (from_bytes key)
+  pub first_words_are : first_words key ≡ four_of (from_bytes key)
   unfolding first_words four_of pair_of
-  first-words_are =
-      same-four (first_words key) (four_of (from_bytes key)) (word-is 0 (lit< tt)) (word-is 2 (lit< tt))
-      (word-is 1 (lit< tt) ∙ sym (ap (λ (p : Pair). p.v) (one_on (from_bytes key))))
-      (word-is 3 (lit< tt) ∙ sym (ap (λ (p : Pair). p.u) (one_on (from_bytes key))))
+  first_words_are =
+      same_four (first_words key) (four_of (from_bytes key)) (word_is 0 (lit< tt)) (word_is 2 (lit< tt))
+      (word_is 1 (lit< tt) ∙ sym (ap (λ (p : Pair). p.v) (one_on (from_bytes key))))
+      (word_is 3 (lit< tt) ∙ sym (ap (λ (p : Pair). p.u) (one_on (from_bytes key))))

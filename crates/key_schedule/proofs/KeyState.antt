@@ -13,12 +13,12 @@ use Rattle.published.specs.Rounds.{Pair}
 use Rattle.published.specs.Key.{◌‖◌, ror16, update, pairs}
 use Rattle.published.specs.Gift128.{pair_of}
 use Rattle.round_words.specs.Arranged.{arranged, stands, words_from}
-use Rattle.round_words.proofs.Arrangements.{stands-arranged, stands-lt}
+use Rattle.round_words.proofs.Arrangements.{stands_arranged, stands_lt}
 use Rattle.key_schedule.specs.declared.Four.{Four}
 use Rattle.key_schedule.specs.InnerUpdate.{updated, updates, later}
 use Rattle.key_schedule.specs.InnerTens.{Ten, five_rounds, five_later, ten_later, ten_further, words_of}
 use Rattle.key_schedule.proofs.Updates.{ror16-lt, updated-lt}
-use Rattle.key_schedule.proofs.TenWords.{same-four, same-ten}
+use Rattle.key_schedule.proofs.TenWords.{same_four, same_ten}
 
 pub word_lt : (key i : ℕ) → digit 65536 key i < 2 ^ 16
 word_lt key i = digit_lt 65536 (lit< tt) key i
@@ -62,9 +62,9 @@ updated-words a b h l = ap₂ (λ (x y : ℕ). ror16 2 x ‖ ror16 12 y) (omega 
 abbrev pub two_on : Pair → Pair
 two_on p = record { u = updated p.v; v = p.u }
 
-pub two-on : (key : ℕ) → pair_of (update (update key)) ≡ two_on (pair_of key)
+pub two_on_lem : (key : ℕ) → pair_of (update (update key)) ≡ two_on (pair_of key)
 unfolding pair_of
-two-on key =
+two_on_lem key =
     one_on (update key)
     ∙ (λ i. record { u = (words-update key 7 6 (lit< tt) (lit< tt) ∙ sym (updated-words (digit 65536 key 1) (digit 65536 key 0) (word_lt key 1) (word_lt key 0))) i; v = words-update key 3 2 (lit< tt) (lit< tt) i })
 
@@ -78,24 +78,24 @@ five_on key = update (update (update (update (update key))))
 
 module _ (key : ℕ) where
   p2 : pair_of (update (update key)) ≡ two_on (pair_of key)
-  p2 = two-on key
+  p2 = two_on_lem key
 
   p3 : pair_of (update (update (update key))) ≡ two_on (pair_of (update key))
-  p3 = two-on (update key)
+  p3 = two_on_lem (update key)
 
   p4 : pair_of (update (update (update (update key)))) ≡ two_on (two_on (pair_of key))
-  p4 = two-on (update (update key)) ∙ ap two_on p2
+  p4 = two_on_lem (update (update key)) ∙ ap two_on p2
 
   p5 : pair_of (five_on key) ≡ two_on (two_on (pair_of (update key)))
-  p5 = two-on (update (update (update key))) ∙ ap two_on p3
+  p5 = two_on_lem (update (update (update key))) ∙ ap two_on p3
 
   p6 : pair_of (update (five_on key)) ≡ two_on (two_on (two_on (pair_of key)))
-  p6 = two-on (update (update (update (update key)))) ∙ ap two_on p4
+  p6 = two_on_lem (update (update (update (update key)))) ∙ ap two_on p4
 
   pub four-later : four_of (five_on key) ≡ five_later (four_of key)
   unfolding four_of five_later
   four-later =
-      same-four (four_of (five_on key)) (five_later (four_of key)) (ap (λ (p : Pair). p.v) p5) (ap (λ (p : Pair). p.u) p5) (ap (λ (p : Pair). p.v) p6)
+      same_four (four_of (five_on key)) (five_later (four_of key)) (ap (λ (p : Pair). p.v) p5) (ap (λ (p : Pair). p.u) p5) (ap (λ (p : Pair). p.v) p6)
       (ap (λ (p : Pair). p.u) p6)
 
   -- the words of the five rounds from key on
@@ -106,12 +106,12 @@ module _ (key : ℕ) where
 -- ten rounds later each word is updated twice or three times, in its arrangement
 later-arranged : (j m w : ℕ) → j < 6 → w < 2 ^ 32 → later j m (arranged j w) ≡ arranged j (updates m w)
 unfolding later
-later-arranged j m w h l = ap (λ (x : ℕ). arranged j (updates m x)) (stands-arranged j w h l)
+later-arranged j m w h l = ap (λ (x : ℕ). arranged j (updates m x)) (stands_arranged j w h l)
 
-pub ten-on : (w : Four) → w.v0 < 2 ^ 32 → w.u0 < 2 ^ 32 → w.v1 < 2 ^ 32 → w.u1 < 2 ^ 32 → ten_later (five_rounds w) ≡ five_rounds (five_later (five_later w))
+pub ten_on_lem : (w : Four) → w.v0 < 2 ^ 32 → w.u0 < 2 ^ 32 → w.v1 < 2 ^ 32 → w.u1 < 2 ^ 32 → ten_later (five_rounds w) ≡ five_rounds (five_later (five_later w))
 unfolding ten_later five_rounds five_later updates
-ten-on w v0 u0 v1 u1 =
-    same-ten (ten_later (five_rounds w)) (five_rounds (five_later (five_later w)))
+ten_on_lem w v0 u0 v1 u1 =
+    same_ten (ten_later (five_rounds w)) (five_rounds (five_later (five_later w)))
     (later-arranged 1 2 w.u0 (lit< tt) u0)
     (later-arranged 1 3 w.v0 (lit< tt) v0)
     (later-arranged 2 2 w.u1 (lit< tt) u1)
@@ -137,12 +137,12 @@ updates-add (suc m) n w = let more : suc (n + m) ≡ n + suc m = omega arith in 
 later-twice : (k m n x : ℕ) → k < 6 → later k (n + m) x ≡ later k m (later k n x)
 unfolding later
 later-twice k m n x h =
-    sym (later-arranged k m (updates n (stands k x)) h (updates-lt n (stands k x) (stands-lt k x)) ∙ ap (arranged k) (updates-add m n (stands k x)))
+    sym (later-arranged k m (updates n (stands k x)) h (updates-lt n (stands k x) (stands_lt k x)) ∙ ap (arranged k) (updates-add m n (stands k x)))
 
 pub ten-further : (t : Ten) → ten_further t ≡ ten_later (ten_later t)
 unfolding ten_further ten_later
 ten-further t =
-    same-ten (ten_further t) (ten_later (ten_later t))
+    same_ten (ten_further t) (ten_later (ten_later t))
     (later-twice 1 2 3 t.v0 (lit< tt))
     (later-twice 1 3 2 t.u0 (lit< tt))
     (later-twice 2 2 3 t.v1 (lit< tt))
@@ -159,10 +159,10 @@ ten-further t =
 abbrev pub ten_on : ℕ → Ten
 ten_on key = five_rounds (four_of key)
 
-ten-later-on : (key : ℕ) → ten_later (ten_on key) ≡ ten_on (five_on (five_on key))
+ten_later_on : (key : ℕ) → ten_later (ten_on key) ≡ ten_on (five_on (five_on key))
 unfolding four_of
-ten-later-on key =
-    ten-on (four_of key) (v-lt key) (u-lt key) (v-lt (update key)) (u-lt (update key)) ∙ sym (ap five_rounds (four-later (five_on key) ∙ ap five_later (four-later key)))
+ten_later_on key =
+    ten_on_lem (four_of key) (v-lt key) (u-lt key) (v-lt (update key)) (u-lt (update key)) ∙ sym (ap five_rounds (four-later (five_on key) ∙ ap five_later (four-later key)))
 
 -- n tens that follow the tens a, b, each made of the ten that stands two before it
 unfoldable pub following : ℕ → Ten → Ten → List ℕ
@@ -178,7 +178,7 @@ follow_on : (n key : ℕ) → following n (ten_on key) (ten_on (five_on key)) �
 unfolding following words_from pairs
 follow_on zero key = refl
 follow_on (suc n) key =
-    ap (λ (x : Ten). words_of x ++ following n (ten_on (five_on key)) x) (ten-later-on key)
+    ap (λ (x : Ten). words_of x ++ following n (ten_on (five_on key)) x) (ten_later_on key)
     ∙ ap (◌++◌ (words_of (ten_on (five_on (five_on key))))) (follow_on n (five_on key))
     ∙ sym (ten-words (five_on (five_on key)) (fives n))
 

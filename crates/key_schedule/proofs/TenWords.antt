@@ -11,12 +11,12 @@ use Rattle.key_schedule.specs.InnerTwenty.{low_ten, high_ten, joined_tens, in_bo
 use Rattle.key_schedule.proofs.Halves.{low-joined, high-joined}
 use Rattle.key_schedule.proofs.Updates.{later-lt}
 
-pub same-four : (s t : Four) → s.v0 ≡ t.v0 → s.u0 ≡ t.u0 → s.v1 ≡ t.v1 → s.u1 ≡ t.u1 → s ≡ t
-same-four s t p0 q0 p1 q1 = λ i. record { v0 = p0 i; u0 = q0 i; v1 = p1 i; u1 = q1 i }
+pub same_four : (s t : Four) → s.v0 ≡ t.v0 → s.u0 ≡ t.u0 → s.v1 ≡ t.v1 → s.u1 ≡ t.u1 → s ≡ t
+same_four s t p0 q0 p1 q1 = λ i. record { v0 = p0 i; u0 = q0 i; v1 = p1 i; u1 = q1 i }
 
-pub same-ten : (s t : Ten) → s.v0 ≡ t.v0 → s.u0 ≡ t.u0 → s.v1 ≡ t.v1 → s.u1 ≡ t.u1 → s.v2 ≡ t.v2 → s.u2 ≡ t.u2 → s.v3 ≡ t.v3 → s.u3 ≡ t.u3
+pub same_ten : (s t : Ten) → s.v0 ≡ t.v0 → s.u0 ≡ t.u0 → s.v1 ≡ t.v1 → s.u1 ≡ t.u1 → s.v2 ≡ t.v2 → s.u2 ≡ t.u2 → s.v3 ≡ t.v3 → s.u3 ≡ t.u3
     → s.v4 ≡ t.v4 → s.u4 ≡ t.u4 → s ≡ t
-same-ten s t p0 q0 p1 q1 p2 q2 p3 q3 p4 q4 =
+same_ten s t p0 q0 p1 q1 p2 q2 p3 q3 p4 q4 =
     λ i. record { v0 = p0 i; u0 = q0 i; v1 = p1 i; u1 = q1 i; v2 = p2 i; u2 = q2 i; v3 = p3 i; u3 = q3 i; v4 = p4 i; u4 = q4 i }
 
 pub same_twenty : (s t : Twenty) → s.v0 ≡ t.v0 → s.u0 ≡ t.u0 → s.v1 ≡ t.v1 → s.u1 ≡ t.u1 → s.v2 ≡ t.v2 → s.u2 ≡ t.u2 → s.v3 ≡ t.v3 → s.u3 ≡ t.u3
@@ -91,7 +91,7 @@ small-further t =
 module _ (s t : Ten) (h : Small s) where
   low-ten : low_ten (joined_tens s t) ≡ s
   low-ten =
-      same-ten (low_ten (joined_tens s t)) s
+      same_ten (low_ten (joined_tens s t)) s
       (low-joined s.v0 t.v0 h.v0)
       (low-joined s.u0 t.u0 h.u0)
       (low-joined s.v1 t.v1 h.v1)
@@ -105,7 +105,7 @@ module _ (s t : Ten) (h : Small s) where
 
   high-ten : high_ten (joined_tens s t) ≡ t
   high-ten =
-      same-ten (high_ten (joined_tens s t)) t
+      same_ten (high_ten (joined_tens s t)) t
       (high-joined s.v0 t.v0 h.v0)
       (high-joined s.u0 t.u0 h.u0)
       (high-joined s.v1 t.v1 h.v1)

@@ -14,7 +14,7 @@ use Rattle.bits.proofs.Computed.{and_left, and_right, bounded}
 use Rattle.bits.proofs.Reflect.{W, var, lit, and, or, shr, shl, value}
 use Rattle.published.specs.Key.{ror16}
 use Rattle.primitives.specs.Words.{permuted, ror_in}
-use Rattle.primitives.proofs.Moves.{bit-permuted, permuted-lt, permuted-then}
+use Rattle.primitives.proofs.Moves.{bit-permuted, permuted-lt, permuted_then}
 use Rattle.round_words.specs.Arranged.{nibble_at, arranged, stands}
 use Rattle.round_words.proofs.Arrangements.{nibble_at-lt, arranged-lt}
 use Rattle.key_schedule.specs.InnerUpdate.{updated, updates, later}
@@ -74,7 +74,7 @@ unfolding updates
 updates-move zero σ x = refl
 updates-move (suc m) σ x =
     ap updated (updates-move m σ x) ∙ updated-move (permuted (λ i. σ (turns m i)) x)
-    ∙ permuted-then turned (λ i. σ (turns m i)) x (bounded 32 32 turned tt)
+    ∙ permuted_then turned (λ i. σ (turns m i)) x (bounded 32 32 turned tt)
 
 abbrev pub later_place : ℕ → ℕ → ℕ → ℕ
 later_place k m i = nibble_at (5 - k) (turns m (nibble_at k i))
@@ -83,7 +83,7 @@ pub later-move : (k m x : ℕ) → k < 6 → later k m x ≡ permuted (later_pla
 unfolding later arranged stands
 later-move k m x h =
     ap (permuted (nibble_at k)) (updates-move m (nibble_at (5 - k)) x)
-    ∙ permuted-then (nibble_at k) (λ i. nibble_at (5 - k) (turns m i)) x (λ i l. nibble_at-lt k i h l)
+    ∙ permuted_then (nibble_at k) (λ i. nibble_at (5 - k) (turns m i)) x (λ i l. nibble_at-lt k i h l)
 
 pub later-lt : (k m x : ℕ) → later k m x < 2 ^ 32
 unfolding later

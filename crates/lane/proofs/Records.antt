@@ -11,16 +11,16 @@ use Rattle.bits.proofs.Truth.{both, together}
 use Rattle.published.specs.Seen.{is_order}
 use Rattle.lane.specs.declared.Lane.{Lane}
 use Rattle.lane.specs.Record.{running, finished, idle, idle_lane, everything, all_zero, sound_count, sound_lane, admits}
-use Rattle.lane.proofs.Zero.{idle-is-zero}
+use Rattle.lane.proofs.Zero.{idle_is_zero}
 
 -- what makes a busy record sound
-pub busy-is : (l : Lane) → l.phase ≢ idle → sound_lane l ≡ (not (eqb l.owner 0) && leb l.direction 1 && is_order l.order && sound_count l.phase l.count)
+pub busy_is : (l : Lane) → l.phase ≢ idle → sound_lane l ≡ (not (eqb l.owner 0) && leb l.direction 1 && is_order l.order && sound_count l.phase l.count)
 unfolding sound_lane everything all_zero
-busy-is l busy = rw (ne_eqb l.phase 0 busy)
+busy_is l busy = rw (ne_eqb l.phase 0 busy)
 
 -- with an owner and a direction it is sound as its order and its count are
 pub busy-ordered : (l : Lane) {t : Bool} → l.phase ≢ idle → l.owner ≢ 0 → l.direction ≤ 1 → is_order l.order ≡ t → sound_lane l ≡ (t && sound_count l.phase l.count)
-busy-ordered l busy owned way e = busy-is l busy ∙ (rw (ne_eqb l.owner 0 owned, le-leb l.direction 1 way, e))
+busy-ordered l busy owned way e = busy_is l busy ∙ (rw (ne_eqb l.owner 0 owned, le-leb l.direction 1 way, e))
 
 -- a busy record that is sound, as facts
 pub record Tidy (l : Lane) : Type 0 where
@@ -32,21 +32,21 @@ pub record Tidy (l : Lane) : Type 0 where
 pub tidy : (l : Lane) → sound_lane l ≡ true → l.phase ≢ idle → Tidy l
 tidy l s busy =
     let two : Bool = not (eqb l.owner 0) && leb l.direction 1 in
-    let h : (two && is_order l.order ≡ true) × (sound_count l.phase l.count ≡ true) = both (two && is_order l.order) (sound_count l.phase l.count) (sym (busy-is l busy) ∙ s) in
+    let h : (two && is_order l.order ≡ true) × (sound_count l.phase l.count ≡ true) = both (two && is_order l.order) (sound_count l.phase l.count) (sym (busy_is l busy) ∙ s) in
     let f : (two ≡ true) × (is_order l.order ≡ true) = both two (is_order l.order) h.0 in
     let g : (not (eqb l.owner 0) ≡ true) × (leb l.direction 1 ≡ true) = both (not (eqb l.owner 0)) (leb l.direction 1) f.0 in
     record { owned = eqb-false l.owner 0 (not-true _ g.0); directed = g.1; ordered = f.1; counted = h.1 }
 
 pub tidy-sound : (l : Lane) → l.phase ≢ idle → Tidy l → sound_lane l ≡ true
 tidy-sound l busy t =
-    busy-is l busy
+    busy_is l busy
     ∙ together _ (sound_count l.phase l.count)
     (together _ (is_order l.order) (together _ (leb l.direction 1) (ap not (ne_eqb l.owner 0 t.owned)) t.directed) t.ordered) t.counted
 
 -- and an idle one
-pub idle-is : (l : Lane) → l.phase ≡ idle → sound_lane l ≡ all_zero (everything l)
+pub idle_is : (l : Lane) → l.phase ≡ idle → sound_lane l ≡ all_zero (everything l)
 unfolding sound_lane sound_count
-idle-is l e =
+idle_is l e =
     let three : Bool = not (eqb l.owner 0) && leb l.direction 1 && is_order l.order in
     ap (λ (t : Bool). all_zero (everything l) || t) (ap (λ (p : ℕ). three && sound_count p l.count) e ∙ and-false three)
     ∙ or-false (all_zero (everything l))
@@ -54,7 +54,7 @@ idle-is l e =
 -- the idle lane is sound
 pub idle-sound : sound_lane idle_lane ≡ true
 unfolding idle_lane
-idle-sound = idle-is idle_lane refl ∙ idle-is-zero
+idle-sound = idle_is idle_lane refl ∙ idle_is_zero
 
 -- whom a lane admits: anyone while it is idle, and then its owner
 pub idle-admits : (l : Lane) (caller : ℕ) → l.phase ≡ idle → admits l caller ≡ true
@@ -82,7 +82,7 @@ finished-count l s e =
 idle-count : (l : Lane) → sound_lane l ≡ true → l.phase ≡ idle → l.count ≡ 0
 unfolding everything all_zero
 idle-count l s e =
-    let p1 = both (eqb l.phase 0) _ (sym (idle-is l e) ∙ s) in
+    let p1 = both (eqb l.phase 0) _ (sym (idle_is l e) ∙ s) in
     let p2 = both (eqb l.direction 0) _ p1.1 in
     let p3 = both (eqb l.owner 0) _ p2.1 in
     eqb-true l.count 0 (both (eqb l.count 0) _ p3.1).0

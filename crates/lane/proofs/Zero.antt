@@ -50,14 +50,14 @@ zeros (w ∷ ws) e =
     let p = both (eqb w 0) (all_zero ws) e in
     λ i. eqb-true w 0 p.0 i ∷ zeros ws p.1 i
 
-pub all-zeros : (k : ℕ) → all_zero (replicate k 0) ≡ true
+pub all_zeros : (k : ℕ) → all_zero (replicate k 0) ≡ true
 unfolding all_zero
-all-zeros zero = refl
-all-zeros (suc k) = all-zeros k
+all_zeros zero = refl
+all_zeros (suc k) = all_zeros k
 
-pub zero-is-idle : (l : Lane) → length l.words ≡ 80 → all_zero (everything l) ≡ true → l ≡ idle_lane
+pub zero_is_idle : (l : Lane) → length l.words ≡ 80 → all_zero (everything l) ≡ true → l ≡ idle_lane
 unfolding idle_lane everything all_zero
-zero-is-idle l long e =
+zero_is_idle l long e =
     let p1 = both (eqb l.phase 0) _ e in
     let p2 = both (eqb l.direction 0) _ p1.1 in
     let p3 = both (eqb l.owner 0) _ p2.1 in
@@ -82,6 +82,6 @@ zero-is-idle l long e =
       };
     }
 
-pub idle-is-zero : all_zero (everything idle_lane) ≡ true
+pub idle_is_zero : all_zero (everything idle_lane) ≡ true
 unfolding idle_lane everything all_zero
-idle-is-zero = all-zeros 80
+idle_is_zero = all_zeros 80

@@ -34,10 +34,10 @@ next l =
     }
 
 -- the same by its parts: the last turn, and one before it
-pub served-by : (l : Lane) (phase : ℕ) (state : State) → l.count < 8 → phase ≡ cond (eqb (l.count + 1) 8) finished running → state ≡ advanced l
+pub served_by_lem : (l : Lane) (phase : ℕ) (state : State) → l.count < 8 → phase ≡ cond (eqb (l.count + 1) 8) finished running → state ≡ advanced l
     → record { phase = phase; direction = l.direction; owner = l.owner; count = l.count + 1; order = l.order; words = l.words; state = state } ≡ served l
 unfolding served
-served-by l phase state h p s = rw (p, s) (sym (cond-true (ltb l.count 8) (next l) l (lt-ltb l.count 8 h)))
+served_by_lem l phase state h p s = rw (p, s) (sym (cond-true (ltb l.count 8) (next l) l (lt-ltb l.count 8 h)))
 
 -- a turn leaves a lane its owner
 pub served-owner : (l : Lane) → (served l).owner ≡ l.owner
@@ -45,17 +45,17 @@ unfolding served
 served-owner l = cond_either (λ (k : Lane). k.owner ≡ l.owner) (ltb l.count 8) (next l) l (λ e. refl) (λ e. refl)
 
 module _ (l : Lane) (sound : sound_lane l ≡ true) (runs : l.phase ≡ running) where
-  pub served-next : served l ≡ next l
+  pub served_next : served l ≡ next l
   unfolding served
-  served-next = cond-true (ltb l.count 8) (next l) l (lt-ltb l.count 8 (running-count l sound runs))
+  served_next = cond-true (ltb l.count 8) (next l) l (lt-ltb l.count 8 (running-count l sound runs))
 
   pub served-count : (served l).count ≡ l.count + 1
-  served-count = ap (λ (k : Lane). k.count) served-next
+  served-count = ap (λ (k : Lane). k.count) served_next
 
   pub served-busy : (served l).phase ≡ idle → ⊥
   served-busy e =
       cond_either (λ (p : ℕ). p ≡ idle → ⊥) (eqb (l.count + 1) 8) finished running (λ t. eqb-false 2 0 refl) (λ t. eqb-false 1 0 refl)
-      (sym (ap (λ (k : Lane). k.phase) served-next) ∙ e)
+      (sym (ap (λ (k : Lane). k.phase) served_next) ∙ e)
 
   pub served-sound : sound_lane (served l) ≡ true
   unfolding sound_count
@@ -66,24 +66,24 @@ module _ (l : Lane) (sound : sound_lane l ≡ true) (runs : l.phase ≡ running)
       (λ e. e)
       (λ e. le-leb (l.count + 1) 7 (omega (arith, running-count l sound runs, eqb-false (l.count + 1) 8 e))) in
       let more : Tidy (next l) = record { owned = t.owned; directed = t.directed; ordered = t.ordered; counted = counted } in
-      tidy-sound (served l) served-busy (rw served-next more)
+      tidy-sound (served l) served-busy (rw served_next more)
 
   pub served-lacks : suc (lacks (served l)) ≡ lacks l
   unfolding lacks
   served-lacks =
       let c : ℕ = l.count in
       let left : c < 8 = running-count l sound runs in
-      rw (served-next, runs)
+      rw (served_next, runs)
       (cond_either (λ (p : ℕ). suc (cond (eqb p running) (8 - (c + 1)) 0) ≡ 8 - c) (eqb (c + 1) 8) finished running
       (λ e. omega (arith, eqb-true (c + 1) 8 e))
       (λ e. omega arith))
 
 -- by a key and a block of 16 bytes, a lane is opened on the key's words and those of the block that its order sees
-pub opened-on : (owner direction order : ℕ) (key block : List ℕ) → is_order order ≡ true → length key ≡ 16 → length block ≡ 16
+pub opened_on : (owner direction order : ℕ) (key block : List ℕ) → is_order order ≡ true → length key ≡ 16 → length block ≡ 16
     → opened owner direction order key block
     ≡ record { phase = running; direction = direction; owner = owner; count = 0; order = order; words = expanded key; state = state_of (read_in order block) }
 unfolding opened expand_code
-opened-on owner direction order key block o k b =
+opened_on owner direction order key block o k b =
     λ i. record {
       phase = running;
       direction = direction;

@@ -14,9 +14,9 @@ use Rattle.bits.proofs.Computed.{agree}
 use Rattle.text.specs.Hex.{hex_digits, place_of, value_of, all_hex, bytes_of}
 
 -- the sixteen digits are two runs of bytes
-pub value-is : (c : ℕ) → c < 256 → cond (ltb c 48) 16 (cond (leb c 57) (c - 48) (cond (ltb c 97) 16 (cond (leb c 102) (c - 97 + 10) 16))) ≡ value_of c
+pub value_is : (c : ℕ) → c < 256 → cond (ltb c 48) 16 (cond (leb c 57) (c - 48) (cond (ltb c 97) 16 (cond (leb c 102) (c - 97 + 10) 16))) ≡ value_of c
 unfolding value_of
-value-is = agree 256 (λ c. cond (ltb c 48) 16 (cond (leb c 57) (c - 48) (cond (ltb c 97) 16 (cond (leb c 102) (c - 97 + 10) 16)))) (λ c. place_of c hex_digits) tt
+value_is = agree 256 (λ c. cond (ltb c 48) 16 (cond (leb c 57) (c - 48) (cond (ltb c 97) 16 (cond (leb c 102) (c - 97 + 10) 16)))) (λ c. place_of c hex_digits) tt
 
 pub both : (a b : Bool) → a && b ≡ true → (a ≡ true) × (b ≡ true)
 both true b e = (refl, e)

@@ -20,16 +20,16 @@ Same P Q =
     (κs : Lfts 2) (a : Dens κs ps) (m m' : ℕ) (s s' : AtExit (ended_of 2 ps r) κs) → P κs a m s → Q κs a m' s' → (m ≡ m') × (s.1.0.now ≡ s'.1.0.now)
 
 -- the fixsliced engine's calls, their first argument being order 0
-abbrev encrypts-0 : Out 2 ps r
-encrypts-0 κs a m s = encrypts.Post κs (0, a) m (0, s)
+abbrev encrypts_0 : Out 2 ps r
+encrypts_0 κs a m s = encrypts.Post κs (0, a) m (0, s)
 
-abbrev decrypts-0 : Out 2 ps r
-decrypts-0 κs a m s = decrypts.Post κs (0, a) m (0, s)
+abbrev decrypts_0 : Out 2 ps r
+decrypts_0 κs a m s = decrypts.Post κs (0, a) m (0, s)
 
-pub same_encryption : Same encrypts-0 plain-encrypts.Post
+pub same_encryption : Same encrypts_0 plain-encrypts.Post
 unfolding order_code encrypted
 same_encryption κs a m m' s s' = one_outcome _ _ _ m m' s.1.0.now s'.1.0.now
 
-pub same_decryption : Same decrypts-0 plain-decrypts.Post
+pub same_decryption : Same decrypts_0 plain-decrypts.Post
 unfolding order_code decrypted
 same_decryption κs a m m' s s' = one_outcome _ _ _ m m' s.1.0.now s'.1.0.now

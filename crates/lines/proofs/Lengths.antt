@@ -51,9 +51,9 @@ done-length : (n : ℕ) → n < 2 ^ 64 → length (done_line n) ≤ 26
 unfolding done_line
 done-length n h = omega (arith, length-append (decimal_of n) (10 ∷ []), number-length n h)
 
-next-lt : (n : ℕ) → n < 2 ^ 64 → next_line n < 2 ^ 64
+next_lt : (n : ℕ) → n < 2 ^ 64 → next_line n < 2 ^ 64
 unfolding next_line
-next-lt n h = go (ltb n 18446744073709551615) refl
+next_lt n h = go (ltb n 18446744073709551615) refl
   where
     go : (t : Bool) → ltb n 18446744073709551615 ≡ t → cond t (n + 1) n < 2 ^ 64
     go true p = omega (arith, ltb-true n 18446744073709551615 p)
@@ -63,6 +63,6 @@ pub closing-length : (r : Reader) → r.lines < 2 ^ 64 → length (closing_of r)
 unfolding closing_of
 closing-length r h =
     let n : ℕ = next_line r.lines in
-    let h' : n < 2 ^ 64 = next-lt r.lines h in
+    let h' : n < 2 ^ 64 = next_lt r.lines h in
     either 62 (eqb r.count 0) _ _ (omega (arith, done-length r.lines h))
     (omega (arith, length-append (answer_line n (held r)) (done_line n), answer_line_length n (held r) h', done-length n h'))

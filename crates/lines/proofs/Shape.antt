@@ -41,11 +41,11 @@ module _ (b : ℕ) (h : b < 256) where
   low : value_of (get_or hex_digits (b % 16) 0) ≡ b % 16
   low = value-digit (b % 16) (omega arith)
 
-all-hex_of : (bs : List ℕ) → Bytes bs → all_hex (hex_of bs) ≡ true
+all_hex_of : (bs : List ℕ) → Bytes bs → all_hex (hex_of bs) ≡ true
 unfolding hex_of all_hex
-all-hex_of [] h = refl
-all-hex_of (b ∷ bs) h =
-    rw (high b (h 0), low b (h 0), lt-ltb (b / 16) 16 (omega (arith, h 0)), lt-ltb (b % 16) 16 (omega (arith, h 0))) (all-hex_of bs (λ i. h (suc i)))
+all_hex_of [] h = refl
+all_hex_of (b ∷ bs) h =
+    rw (high b (h 0), low b (h 0), lt-ltb (b / 16) 16 (omega (arith, h 0)), lt-ltb (b % 16) 16 (omega (arith, h 0))) (all_hex_of bs (λ i. h (suc i)))
 
 read-hex_of : (bs : List ℕ) → Bytes bs → bytes_of (hex_of bs) ≡ bs
 unfolding hex_of bytes_of
@@ -109,7 +109,7 @@ module _ (c : ℕ) (key block : List ℕ) (k : length key ≡ 16) (b : length bl
   module _ (letter : is_letter c ≡ true) (hk : Bytes key) (hb : Bytes block) where
     pub good_line : is_good (line_of c key block) ≡ true
     unfolding is_good
-    good_line = rw (line_length, line_0, letter, line_1, line_34, key_text_lem, all-hex_of key hk, block_text_lem) (all-hex_of block hb)
+    good_line = rw (line_length, line_0, letter, line_1, line_34, key_text_lem, all_hex_of key hk, block_text_lem) (all_hex_of block hb)
 
     pub good-answer : (n : ℕ) → answer_of n (line_of c key block) ≡ response c key block
     unfolding answer_of

@@ -44,18 +44,18 @@ fresh_holds : Holds fresh_reader [] 0
 unfolding fresh_reader
 fresh_holds = record { room = refl; count = refl; bytes = refl; lines = refl }
 
-next-is : (n : ℕ) → suc n < 2 ^ 64 → next_line n ≡ suc n
+next_is : (n : ℕ) → suc n < 2 ^ 64 → next_line n ≡ suc n
 unfolding next_line
-next-is n h = rw (lt-ltb n 18446744073709551615 (omega arith), add-one n)
+next_is n h = rw (lt-ltb n 18446744073709551615 (omega arith), add-one n)
 
 module _ (r : Reader) (begun : List ℕ) (n : ℕ) (holds : Holds r begun n) where
   ended-holds : suc n < 2 ^ 64 → Holds (ended r) [] (suc n)
   unfolding ended
-  ended-holds h = record { room = holds.room; count = refl; bytes = refl; lines = ap next_line holds.lines ∙ next-is n h }
+  ended-holds h = record { room = holds.room; count = refl; bytes = refl; lines = ap next_line holds.lines ∙ next_is n h }
 
-  kept-holds : (b : ℕ) → Holds (kept r b) (begun ++ (b ∷ [])) n
+  kept_holds : (b : ℕ) → Holds (kept r b) (begun ++ (b ∷ [])) n
   unfolding kept
-  kept-holds b = go (ltb r.count 68) refl
+  kept_holds b = go (ltb r.count 68) refl
     where
       go : (t : Bool) → ltb r.count 68 ≡ t → Holds (cond t (record { line = set r.line r.count b; count = r.count + 1; lines = r.lines }) r) (begun ++ (b ∷ [])) n
       go true p =
@@ -85,7 +85,7 @@ module _ (r : Reader) (begun : List ℕ) (n : ℕ) (holds : Holds r begun n) whe
   unfolding answer_line held
   answered h =
       ap (λ (l : List ℕ). l ++ (10 ∷ []))
-      (ap₂ answer_of (ap next_line holds.lines ∙ next-is n h) holds.bytes ∙ answer-cut (suc n) begun)
+      (ap₂ answer_of (ap next_line holds.lines ∙ next_is n h) holds.bytes ∙ answer-cut (suc n) begun)
 
 -- the lines of an input, and what is fed, by the byte that comes
 line_ends : (b : ℕ) (begun : List ℕ) → lines_from (b ∷ begun) [] ≡ (b ∷ begun) ∷ []
@@ -106,16 +106,16 @@ module _ (r : Reader) (b : ℕ) where
   unfolding fed_by
   fed_newline = cond-true (eqb b 10) _ _
 
-  fed-other : eqb b 10 ≡ false → fed_by r b ≡ record { reader = kept r b; text = written [] }
+  fed_other : eqb b 10 ≡ false → fed_by r b ≡ record { reader = kept r b; text = written [] }
   unfolding fed_by
-  fed-other = cond-false (eqb b 10) _ _
+  fed_other = cond-false (eqb b 10) _ _
 
   pub fed-fits : (fed_by r b).text.count ≤ 64
   fed-fits = go (eqb b 10) refl
     where
       go : (t : Bool) → eqb b 10 ≡ t → (fed_by r b).text.count ≤ 64
       go true p = rw (fed_newline p) (written-fits (answer_line (next_line r.lines) (held r)))
-      go false p = rw (fed-other p) (written-fits [])
+      go false p = rw (fed_other p) (written-fits [])
 
 -- the answers to the lines of what is left, and the closing line
 abbrev rest : List ℕ → List ℕ → ℕ → List ℕ
@@ -126,7 +126,7 @@ unfolding closing_of answers
 closed [] r n holds h = unfold lines_from in rw (eq-eqb r.count 0 holds.count, holds.lines, add-zero n)
 closed (b ∷ begun) r n holds h =
     let h' : suc n < 2 ^ 64 = omega arith in
-    rw (ne_eqb r.count 0 (λ e. omega (arith, holds.count)), answered r (b ∷ begun) n holds h', holds.lines, next-is n h', line_ends b begun, append-nil, add-one n)
+    rw (ne_eqb r.count 0 (λ e. omega (arith, holds.count)), answered r (b ∷ begun) n holds h', holds.lines, next_is n h', line_ends b begun, append-nil, add-one n)
 
 from : (bs : List ℕ) (r : Reader) (begun : List ℕ) (n : ℕ) → Holds r begun n → n + length begun + length bs < 2 ^ 64 → written_from r bs ≡ rest begun bs n
 unfolding written_from written answers
@@ -147,8 +147,8 @@ from (b ∷ bs) r begun n holds h = go (from bs) (eqb b 10) refl
         ∙ sym (append_assoc (answer_line (suc n) begun) (answers (suc (suc n)) (lines_from [] bs)) (done_line (suc n + length (lines_from [] bs))))
         ∙ ap (λ (m : ℕ). answers (suc n) (begun ∷ lines_from [] bs) ++ done_line m) count)
     go more false p =
-        rw (fed-other r b p, at_other begun b bs p)
-        (more (kept r b) (begun ++ (b ∷ [])) n (kept-holds r begun n holds b) (omega (arith, length-append begun (b ∷ []))))
+        rw (fed_other r b p, at_other begun b bs p)
+        (more (kept r b) (begun ++ (b ∷ [])) n (kept_holds r begun n holds b) (omega (arith, length-append begun (b ∷ []))))
 
 pub whole : (input : List ℕ) → length input < 2 ^ 64 → written_of input ≡ output_of input
 unfolding written_of output_of written

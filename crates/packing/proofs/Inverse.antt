@@ -34,8 +34,8 @@ module _ (order : ℕ) (bs : List ℕ) where
   pub packed-block : is_order order ≡ true → length bs ≡ 16 → packed order bs ≡ state_of (read_in order bs)
   packed-block o e = packs (good order bs o e)
 
-  pub packed-other : (length bs ≡ 16 → ⊥) → packed order bs ≡ no_words
-  packed-other n = packs (long order bs n)
+  pub packed_other : (length bs ≡ 16 → ⊥) → packed order bs ≡ no_words
+  packed_other n = packs (long order bs n)
 
   pub packed_in_none : is_order order ≡ false → packed order bs ≡ no_words
   packed_in_none o = packs (none order bs o)
@@ -48,8 +48,8 @@ module _ (order : ℕ) (s : State) (out : List ℕ) where
   pub unpacked-block : is_order order ≡ true → length out ≡ 16 → unpacked order s out ≡ write_in order (block_of s)
   unpacked-block o e = unpacks (good order out o e)
 
-  pub unpacked-other : (length out ≡ 16 → ⊥) → unpacked order s out ≡ out
-  unpacked-other n = unpacks (long order out n)
+  pub unpacked_other : (length out ≡ 16 → ⊥) → unpacked order s out ≡ out
+  unpacked_other n = unpacks (long order out n)
 
   pub unpacked_in_none : is_order order ≡ false → unpacked order s out ≡ out
   unpacked_in_none o = unpacks (none order out o)

@@ -21,9 +21,9 @@ use Rattle.packing.specs.Packing.{no_words, packed64, unpacked64}
 use Rattle.packing.proofs.Steps.{reordered-lt, bit-reordered}
 
 -- gathered, piece j is word j
-pub piece-is-word : (x j : ℕ) → j < 4 → digit 65536 (reordered gathered_from x) j ≡ word 64 x j
+pub piece_is_word : (x j : ℕ) → j < 4 → digit 65536 (reordered gathered_from x) j ≡ word 64 x j
 unfolding word
-piece-is-word x j l =
+piece_is_word x j l =
     bit_ext 16 _ _ (digit_lt 65536 (lit< tt) (reordered gathered_from x) j) (of_bits_lt 16 (λ i. bit x (4 * i + j)))
     (λ i k.
     bit-digit 16 (reordered gathered_from x) j i k ∙ bit-reordered _ x (16 * j + i) (omega arith) ∙ ap (bit x) (place i k)
@@ -66,14 +66,14 @@ pub packed-eight : (bs : List ℕ) → length bs ≡ 8 → packed64 bs ≡ state
 unfolding packed64
 packed-eight bs e = ap (λ (b : Bool). cond b (state_of64 (from_bytes bs)) no_words) (eq-eqb (length bs) 8 e)
 
-pub packed-not-eight : (bs : List ℕ) → (length bs ≡ 8 → ⊥) → packed64 bs ≡ no_words
+pub packed_not_eight : (bs : List ℕ) → (length bs ≡ 8 → ⊥) → packed64 bs ≡ no_words
 unfolding packed64
-packed-not-eight bs n = ap (λ (b : Bool). cond b (state_of64 (from_bytes bs)) no_words) (ne_eqb (length bs) 8 n)
+packed_not_eight bs n = ap (λ (b : Bool). cond b (state_of64 (from_bytes bs)) no_words) (ne_eqb (length bs) 8 n)
 
 pub unpacked-eight : (s : State) (out : List ℕ) → length out ≡ 8 → unpacked64 s out ≡ to_bytes 8 (block_of64 s)
 unfolding unpacked64
 unpacked-eight s out e = ap (λ (b : Bool). cond b (to_bytes 8 (block_of64 s)) out) (eq-eqb (length out) 8 e)
 
-pub unpacked-not-eight : (s : State) (out : List ℕ) → (length out ≡ 8 → ⊥) → unpacked64 s out ≡ out
+pub unpacked_not_eight : (s : State) (out : List ℕ) → (length out ≡ 8 → ⊥) → unpacked64 s out ≡ out
 unfolding unpacked64
-unpacked-not-eight s out n = ap (λ (b : Bool). cond b (to_bytes 8 (block_of64 s)) out) (ne_eqb (length out) 8 n)
+unpacked_not_eight s out n = ap (λ (b : Bool). cond b (to_bytes 8 (block_of64 s)) out) (ne_eqb (length out) 8 n)

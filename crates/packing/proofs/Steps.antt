@@ -20,8 +20,8 @@ swap n mask =
 abbrev pub far : ℕ → ℕ
 far k = 3 * 2 ^ k % 2 ^ 32
 
-abbrev is-step : ℕ → Bool
-is-step k = sized (64 ∷ []) 64 (swap (far k) (rising k)) && tells (64 ∷ []) 64 (swap (far k) (rising k)) 64 (λ p. atom 0 (crossed k p))
+abbrev is_step : ℕ → Bool
+is_step k = sized (64 ∷ []) 64 (swap (far k) (rising k)) && tells (64 ∷ []) 64 (swap (far k) (rising k)) 64 (λ p. atom 0 (crossed k p))
 
 module _ (k : ℕ) (l : k < 4) where
   pub far_lt : far k < 64
@@ -29,7 +29,7 @@ module _ (k : ℕ) (l : k < 4) where
 
   pub step : (x : ℕ) → x < 2 ^ 64 → value 64 (x ∷ []) (swap (far k) (rising k)) ≡ reordered (crossed k) x
   unfolding reordered rising digit number bit of_bits
-  step x h = by_test (64 ∷ []) (x ∷ []) 64 (h, tt) (swap (far k) (rising k)) (λ p. atom 0 (crossed k p)) (at 4 is-step tt k l)
+  step x h = by_test (64 ∷ []) (x ∷ []) 64 (h, tt) (swap (far k) (rising k)) (λ p. atom 0 (crossed k p)) (at 4 is_step tt k l)
 
 -- ---- a row of steps
 

@@ -137,13 +137,13 @@ pub record KeyRead (x i : ℕ) (k : List ℕ) : Type 0 where
   pub long : length k ≡ 8
   pub past : (j : ℕ) → 8 ≤ i + j → j < 8 → get_or k j 0 ≡ digit 65536 x j
 
-pub key-none : (x : ℕ) → KeyRead x 0 (replicate 8 0)
-key-none x = record { long = refl; past = λ j h l. omega arith }
+pub key_none : (x : ℕ) → KeyRead x 0 (replicate 8 0)
+key_none x = record { long = refl; past = λ j h l. omega arith }
 
 module _ (key : List ℕ) (len : length key ≡ 16) (bytes : Bytes key) where
-  pub key-next : (k : List ℕ) (i : ℕ) → i < 8 → KeyRead (from_bytes key) i k
+  pub key_next : (k : List ℕ) (i : ℕ) → i < 8 → KeyRead (from_bytes key) i k
       → KeyRead (from_bytes key) (i + 1) (set k (7 - i) (get_or key (2 * i) 0 * 256 + get_or key (2 * i + 1) 0))
-  key-next k i h t =
+  key_next k i h t =
       record {
         long = length-set k (7 - i) new ∙ t.long;
         past =
@@ -170,7 +170,7 @@ module _ (key : List ℕ) (len : length key ≡ 16) (bytes : Bytes key) where
       is : new ≡ digit 65536 (from_bytes key) (7 - i)
       is = ap₂ (λ (a b : ℕ). a * 256 + b) (sym high) (sym low) ∙ sym (two_digits 256 (lit< tt) (from_bytes key) (7 - i))
 
-  pub key-all : (k : List ℕ) (i : ℕ) → 8 ≤ i → KeyRead (from_bytes key) i k → key_of k ≡ from_bytes key
-  key-all k i h t =
+  pub key_all : (k : List ℕ) (i : ℕ) → 8 ≤ i → KeyRead (from_bytes key) i k → key_of k ≡ from_bytes key
+  key_all k i h t =
       number_cong 65536 8 (λ j. get_or k j 0) (digit 65536 (from_bytes key)) (λ j l. t.past j (omega arith) l)
       ∙ number-digit 65536 (lit< tt) 8 (from_bytes key) (block-lt key len bytes)

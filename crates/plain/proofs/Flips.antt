@@ -18,7 +18,7 @@ use Rattle.bits.proofs.Bits.{bit-digit, bit_ext, bit_out, bit_shl_cut, bit-xor, 
 use Rattle.published.specs.Rounds.{xored}
 use Rattle.published.proofs.Steps.{bit-xored, xored-lt}
 use Rattle.plain.specs.Inner.{state_of, nibbles_of, by, one_at}
-use Rattle.plain.proofs.Nibbles.{nibbles_are, nibbles_of_state_of, digit_state_of, state_of_lt, by-by}
+use Rattle.plain.proofs.Nibbles.{nibbles_are, nibbles_of_state_of, digit_state_of, state_of_lt, by_by}
 
 -- ---- one bit
 
@@ -32,8 +32,8 @@ bit-zero (suc zero) h = refl
 bit-zero (suc (suc b)) h = absurd (not-suc-le-zero (le_of_suc-le-suc (le_of_suc-le-suc h)))
 
 -- bit j of b shifted left by k places, b being 0 or 1
-bit-of-one : (b k j : ℕ) → b < 2 → j < 8 → bit (b * 2 ^ k % 2 ^ 8) j ≡ (eqb j k && eqb b 1)
-bit-of-one b k j hb hj =
+bit_of_one : (b k j : ℕ) → b < 2 → j < 8 → bit (b * 2 ^ k % 2 ^ 8) j ≡ (eqb j k && eqb b 1)
+bit_of_one b k j hb hj =
     bit_shl_cut 8 b k j hj
     ∙ elim (ℕ_discrete j k) [
       | yes e ↦ rw (e, le-leb k k (le_of_eq refl), sub_self k, same k) (bit-zero b hb)
@@ -44,8 +44,8 @@ bit-of-one b k j hb hj =
           ]
     ]
 
-eqb-alike : (a b c d : ℕ) → (a ≡ b → c ≡ d) → (c ≡ d → a ≡ b) → eqb a b ≡ eqb c d
-eqb-alike a b c d f g =
+eqb_alike : (a b c d : ℕ) → (a ≡ b → c ≡ d) → (c ≡ d → a ≡ b) → eqb a b ≡ eqb c d
+eqb_alike a b c d f g =
     elim (ℕ_discrete a b) [
       | yes e ↦ eq-eqb a b e ∙ sym (eq-eqb c d (f e))
       | no ne ↦ ne_eqb a b ne ∙ sym (ne_eqb c d (λ e. ne (g e)))
@@ -69,14 +69,14 @@ flipped ns q b small hq hb =
         bit-digit 4 (xored n (one_at q b) (state_of ns)) i j l ∙ bit-xored n (one_at q b) (state_of ns) (4 * i + j) (omega arith)
         ∙ ap (λ (x : Bool). x ⊕ (eqb (4 * i + j) q && eqb b 1)) (sym (bit-digit 4 (state_of ns) i j l) ∙ ap (λ (x : ℕ). bit x j) (digit_state_of ns small i h))
 
-    new-lt : new < 2 ^ 4
-    new-lt = xor_lt 4 (get_or ns (q / 4) 0) (b * 2 ^ (q % 4) % 2 ^ 8) (small (q / 4))
+    new_lt : new < 2 ^ 4
+    new_lt = xor_lt 4 (get_or ns (q / 4) 0) (b * 2 ^ (q % 4) % 2 ^ 8) (small (q / 4))
         (lt_of_le_of_lt (mod-le (b * 2 ^ (q % 4)) (2 ^ 8)) (lt_of_lt_of_le (shl_lt 1 (q % 4) hb) (pow_mono {j = 4} (omega arith))))
 
     stored-lt : (i : ℕ) → i < length ns → get_or (set ns (q / 4) new) i 0 < 2 ^ 4
     stored-lt i h =
         elim (ℕ_discrete i (q / 4)) [
-          | yes e ↦ rw (e, get_or-set_same ns (q / 4) new 0 (rw e at h)) new-lt
+          | yes e ↦ rw (e, get_or-set_same ns (q / 4) new 0 (rw e at h)) new_lt
           | no ne ↦ rw (get_or-set_other ns (q / 4) i new 0 ne) (small i)
         ]
 
@@ -87,7 +87,7 @@ flipped ns q b small hq hb =
               ap (λ (x : ℕ). bit x j) (ap (λ (k : ℕ). get_or (set ns (q / 4) new) k 0) e ∙ get_or-set_same ns (q / 4) new 0 (rw e at h))
               ∙ bit-xor (get_or ns (q / 4) 0) (b * 2 ^ (q % 4) % 2 ^ 8) j
               ∙ ap₂ (λ (k : ℕ) (x : Bool). bit (get_or ns k 0) j ⊕ x) (sym e)
-              (bit-of-one b (q % 4) j hb (omega arith) ∙ ap (λ (x : Bool). x && eqb b 1) (eqb-alike j (q % 4) (4 * i + j) q (λ d. omega arith) (λ d. omega arith)))
+              (bit_of_one b (q % 4) j hb (omega arith) ∙ ap (λ (x : Bool). x && eqb b 1) (eqb_alike j (q % 4) (4 * i + j) q (λ d. omega arith) (λ d. omega arith)))
           | no ne ↦
               ap (λ (x : ℕ). bit x j) (get_or-set_other ns (q / 4) i new 0 ne)
               ∙ sym (⊕-false (bit (get_or ns i 0) j))
@@ -100,9 +100,9 @@ xored_cong : (n : ℕ) (f g : ℕ → Bool) (s : ℕ) → ((q : ℕ) → q < n �
 unfolding xored
 xored_cong n f g s e = of_bits_cong n (λ q. bit s q ⊕ f q) (λ q. bit s q ⊕ g q) (λ q h. ap (λ (x : Bool). bit s q ⊕ x) (e q h))
 
-xored-none : (n : ℕ) (f : ℕ → Bool) (s : ℕ) → s < 2 ^ n → ((q : ℕ) → q < n → f q ≡ false) → xored n f s ≡ s
+xored_none : (n : ℕ) (f : ℕ → Bool) (s : ℕ) → s < 2 ^ n → ((q : ℕ) → q < n → f q ≡ false) → xored n f s ≡ s
 unfolding xored
-xored-none n f s h e =
+xored_none n f s h e =
     of_bits_cong n (λ q. bit s q ⊕ f q) (bit s) (λ q l. ap (λ (x : Bool). bit s q ⊕ x) (e q l) ∙ ⊕-false (bit s q)) ∙ of_bits_bit n s h
 
 xored-xored : (n : ℕ) (f g : ℕ → Bool) (s : ℕ) → xored n g (xored n f s) ≡ xored n (λ q. f q ⊕ g q) s
@@ -116,14 +116,14 @@ abbrev pub Flipped : List ℕ → (ℕ → Bool) → List ℕ → Type 0
 Flipped ns f now = now ≡ by (λ n. xored n f) ns
 
 module _ (ns : List ℕ) where
-  pub none-flipped : (f : ℕ → Bool) → ((i : ℕ) → get_or ns i 0 < 16) → ((q : ℕ) → q < 4 * length ns → f q ≡ false) → Flipped ns f ns
-  none-flipped f small e =
-      nibbles_of_state_of ns small ∙ ap (nibbles_of (length ns)) (sym (xored-none (4 * length ns) f (state_of ns) (state_of_lt ns small) e))
+  pub none_flipped : (f : ℕ → Bool) → ((i : ℕ) → get_or ns i 0 < 16) → ((q : ℕ) → q < 4 * length ns → f q ≡ false) → Flipped ns f ns
+  none_flipped f small e =
+      nibbles_of_state_of ns small ∙ ap (nibbles_of (length ns)) (sym (xored_none (4 * length ns) f (state_of ns) (state_of_lt ns small) e))
 
   -- first f and then g are h
-  pub then-flipped : (f g h : ℕ → Bool) {mid now : List ℕ} → Flipped ns f mid → Flipped mid g now → ((q : ℕ) → q < 4 * length ns → f q ⊕ g q ≡ h q) → Flipped ns h now
-  then-flipped f g h before after e =
-      after ∙ ap (by (λ n. xored n g)) before ∙ by-by (λ n. xored n g) (λ n. xored n f) ns (xored-lt (4 * length ns) f (state_of ns))
+  pub then_flipped : (f g h : ℕ → Bool) {mid now : List ℕ} → Flipped ns f mid → Flipped mid g now → ((q : ℕ) → q < 4 * length ns → f q ⊕ g q ≡ h q) → Flipped ns h now
+  then_flipped f g h before after e =
+      after ∙ ap (by (λ n. xored n g)) before ∙ by_by (λ n. xored n g) (λ n. xored n f) ns (xored-lt (4 * length ns) f (state_of ns))
       ∙ ap (nibbles_of (length ns)) (xored-xored (4 * length ns) f g (state_of ns) ∙ xored_cong (4 * length ns) (λ q. f q ⊕ g q) h (state_of ns) e)
 
   pub as_flipped : (f g : ℕ → Bool) {now : List ℕ} → Flipped ns f now → ((q : ℕ) → q < 4 * length ns → f q ≡ g q) → Flipped ns g now

@@ -10,7 +10,7 @@ use lib.ListN.{replicate}
 use lib.Pow.{pow_mono}
 use borrow.Author.Tests.{le-ltb, eq-eqb, ne_eqb}
 use Rattle.bits.specs.Digit.{digit, number, one, bit, of_bits, ◌⊕◌}
-use Rattle.bits.proofs.Bits.{bit_of_bits, bit_out, is_one-one, of_bits_bit, of_bits_lt, of_bits_put, ⊕-false}
+use Rattle.bits.proofs.Bits.{bit_of_bits, bit_out, is_one_one, of_bits_bit, of_bits_lt, of_bits_put, ⊕-false}
 use Rattle.published.specs.Rounds.{P, moved, xored}
 use Rattle.published.specs.Inner.{back}
 use Rattle.published.proofs.Steps.{Width, moved-low}
@@ -24,7 +24,7 @@ flip_adds n q b y v h l z e =
     of_bits_put n q (λ p. bit y p ⊕ one_at q b p) (bit y) l z
     (λ p k ne. ap (λ (t : Bool). bit y p ⊕ (t && eqb b 1)) (ne_eqb p q ne) ∙ ⊕-false (bit y p))
     ∙ ap₂ (λ (g : Bool) (m : ℕ). one g * 2 ^ q + m)
-    (ap₂ (λ (x t : Bool). x ⊕ (t && eqb b 1)) z (eq-eqb q q refl) ∙ ap (λ (d : ℕ). eqb d 1) e ∙ is_one-one v)
+    (ap₂ (λ (x t : Bool). x ⊕ (t && eqb b 1)) z (eq-eqb q q refl) ∙ ap (λ (d : ℕ). eqb d 1) e ∙ is_one_one v)
     (of_bits_bit n y h)
 
 put : {m next : List ℕ} (y q b : ℕ) (v : Bool) → y < 2 ^ 128 → q < 128 → bit y q ≡ false → m ≡ nibbles_of 32 y → b ≡ one v
@@ -53,19 +53,19 @@ module _ (n : ℕ) (ok : Width n) (most : n ≤ 128) (x : ℕ) where
       ∙ bit_of_bits n (λ q. ltb (back n q) i && bit x (back n q)) (P n i) (ok.P_lt i h)
       ∙ ap (λ (t : Bool). t && bit x (back n (P n i))) (ap (λ (k : ℕ). ltb k i) (ok.back_P i h) ∙ le-ltb i i (le_refl i))
 
-  pub moved-next : {m next : List ℕ} (i b : ℕ) → i < n → m ≡ nibbles_of 32 (moved (P n) i x) → b ≡ one (bit x i)
+  pub moved_next : {m next : List ℕ} (i b : ℕ) → i < n → m ≡ nibbles_of 32 (moved (P n) i x) → b ≡ one (bit x i)
       → next ≡ by (λ k. xored k (one_at (P n i) b)) m → next ≡ nibbles_of 32 (moved (P n) (i + 1) x)
   unfolding moved
-  moved-next i b h before e flip =
+  moved_next i b h before e flip =
       put (moved (P n) i x) (P n i) b (bit x i) (moved-lt i (le_of_suc-le h)) (lt_of_lt_of_le (ok.P_lt i h) most) (free i h) before e flip
       ∙ ap (λ (k : ℕ). nibbles_of 32 (moved (P n) k x)) (sym (add-one i))
 
   -- ---- and back
 
-  pub unmoved-next : {m next : List ℕ} (i b : ℕ) → i < n → m ≡ nibbles_of 32 (of_bits i (λ k. bit x (P n k))) → b ≡ one (bit x (P n i))
+  pub unmoved_next : {m next : List ℕ} (i b : ℕ) → i < n → m ≡ nibbles_of 32 (of_bits i (λ k. bit x (P n k))) → b ≡ one (bit x (P n i))
       → next ≡ by (λ k. xored k (one_at i b)) m → next ≡ nibbles_of 32 (of_bits (i + 1) (λ k. bit x (P n k)))
   unfolding of_bits number
-  unmoved-next i b h before e flip =
+  unmoved_next i b h before e flip =
       let low : of_bits i (λ k. bit x (P n k)) < 2 ^ i = of_bits_lt i (λ k. bit x (P n k)) in
       put (of_bits i (λ k. bit x (P n k))) i b (bit x (P n i)) (wide (lt_of_lt_of_le low (pow_mono (le_of_suc-le h)))) (lt_of_lt_of_le h most)
       (bit_out i (of_bits i (λ k. bit x (P n k))) i low (le_refl i)) before e flip

@@ -100,16 +100,16 @@ again ns x e ok =
       most = rw same ok.most;
     }
 
-pub nibbles-of : (n x : ℕ) → n % 4 ≡ 0 → 8 ≤ n → n ≤ 32 → {m : List ℕ} → m ≡ nibbles_of n x → Nibbles m
-nibbles-of n x fours least most e =
+pub nibbles_of_lem : (n x : ℕ) → n % 4 ≡ 0 → 8 ≤ n → n ≤ 32 → {m : List ℕ} → m ≡ nibbles_of n x → Nibbles m
+nibbles_of_lem n x fours least most e =
     let long : length (nibbles_of n x) ≡ n = length-nibbles_of n x in
     rw e (record { small = small-nibbles_of n x; fours = rw long fours; least = rw long least; most = rw long most })
 
-pub nibbles-32 : (x : ℕ) {m : List ℕ} → m ≡ nibbles_of 32 x → Nibbles m
-nibbles-32 x e = nibbles-of 32 x refl (lit≤ tt) (lit≤ tt) e
+pub nibbles_32 : (x : ℕ) {m : List ℕ} → m ≡ nibbles_of 32 x → Nibbles m
+nibbles_32 x e = nibbles_of_lem 32 x refl (lit≤ tt) (lit≤ tt) e
 
 -- a step after a step, where the first stays within the width
-pub by-by : (f g : ℕ → ℕ → ℕ) (ns : List ℕ) → g (4 * length ns) (state_of ns) < 2 ^ (4 * length ns) → by f (by g ns) ≡ by (λ n s. f n (g n s)) ns
-by-by f g ns h =
+pub by_by : (f g : ℕ → ℕ → ℕ) (ns : List ℕ) → g (4 * length ns) (state_of ns) < 2 ^ (4 * length ns) → by f (by g ns) ≡ by (λ n s. f n (g n s)) ns
+by_by f g ns h =
     let s : ℕ = g (4 * length ns) (state_of ns) in
     ap₂ (λ (l x : ℕ). nibbles_of l (f (4 * l) x)) (same_length ns s refl) (state_of_nibbles_of (length ns) s h)

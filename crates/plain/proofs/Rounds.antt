@@ -15,27 +15,27 @@ use Rattle.published.specs.Inner.{unentry, un_perm_bits, steps_back}
 use Rattle.published.specs.Key.{update, pairs}
 use Rattle.published.proofs.Reading.{from_bytes-lt}
 use Rattle.published.proofs.Steps.{width, entry_lt, sub_cells-lt, perm_bits-lt, un_perm_bits-lt, xored-lt}
-use Rattle.published.proofs.Undone.{unround-is, rounds-lt, unrounds-lt}
+use Rattle.published.proofs.Undone.{unround_is, rounds-lt, unrounds-lt}
 use Rattle.plain_key.specs.Inner.{count_of, place_of, uv_of}
 use Rattle.plain.specs.Inner.{state_of, nibbles_of, by, Nibbles, rounds_by}
-use Rattle.plain.proofs.Nibbles.{state_of_lt, state_of_nibbles_of, nibbles_of_state_of, by-by, width_of}
+use Rattle.plain.proofs.Nibbles.{state_of_lt, state_of_nibbles_of, nibbles_of_state_of, by_by, width_of}
 
 -- ---- one round
 
 module _ (j : ℕ) (p : Pair) (c : ℕ) {ns : List ℕ} (ok : Nibbles ns) where
-  pub round-made : {a b d e : List ℕ} → a ≡ by (sub_cells entry) ns → b ≡ by perm_bits a → d ≡ by (λ n. xored n (key_bit j p)) b → e ≡ by (λ n. xored n (constant_bit n c)) d
+  pub round_made : {a b d e : List ℕ} → a ≡ by (sub_cells entry) ns → b ≡ by perm_bits a → d ≡ by (λ n. xored n (key_bit j p)) b → e ≡ by (λ n. xored n (constant_bit n c)) d
       → e ≡ by (λ n. round n j p c) ns
   unfolding round
-  round-made e1 e2 e3 e4 =
+  round_made e1 e2 e3 e4 =
       let n : ℕ = 4 * length ns in
       let s : ℕ = state_of ns in
       e4
       ∙ ap (by (λ m. xored m (constant_bit m c)))
       (e3
       ∙ ap (by (λ m. xored m (key_bit j p)))
-      (e2 ∙ ap (by perm_bits) e1 ∙ by-by perm_bits (sub_cells entry) ns (sub_cells-lt n (width_of ns ok) entry entry_lt s))
-      ∙ by-by (λ m. xored m (key_bit j p)) (λ m x. perm_bits m (sub_cells entry m x)) ns (perm_bits-lt n (width_of ns ok) (sub_cells entry n s)))
-      ∙ by-by (λ m. xored m (constant_bit m c)) (λ m x. xored m (key_bit j p) (perm_bits m (sub_cells entry m x))) ns (xored-lt n (key_bit j p) (perm_bits n (sub_cells entry n s)))
+      (e2 ∙ ap (by perm_bits) e1 ∙ by_by perm_bits (sub_cells entry) ns (sub_cells-lt n (width_of ns ok) entry entry_lt s))
+      ∙ by_by (λ m. xored m (key_bit j p)) (λ m x. perm_bits m (sub_cells entry m x)) ns (perm_bits-lt n (width_of ns ok) (sub_cells entry n s)))
+      ∙ by_by (λ m. xored m (constant_bit m c)) (λ m x. xored m (key_bit j p) (perm_bits m (sub_cells entry m x))) ns (xored-lt n (key_bit j p) (perm_bits n (sub_cells entry n s)))
 
   pub round-unmade : {a b d e : List ℕ} → a ≡ by (λ n. xored n (constant_bit n c)) ns → b ≡ by (λ n. xored n (key_bit j p)) a → d ≡ by un_perm_bits b → e ≡ by (sub_cells unentry) d
       → e ≡ by (λ n. unround n j p c) ns
@@ -50,16 +50,16 @@ module _ (j : ℕ) (p : Pair) (c : ℕ) {ns : List ℕ} (ok : Nibbles ns) where
       (e3
       ∙ ap (by un_perm_bits)
       (e2 ∙ ap (by (λ m. xored m (key_bit j p))) e1
-      ∙ by-by (λ m. xored m (key_bit j p)) (λ m z. xored m (constant_bit m c) z) ns (xored-lt n (constant_bit n c) s))
-      ∙ by-by un_perm_bits (λ m z. xored m (key_bit j p) (xored m (constant_bit m c) z)) ns (xored-lt n (key_bit j p) x))
-      ∙ by-by (sub_cells unentry) (λ m z. un_perm_bits m (xored m (key_bit j p) (xored m (constant_bit m c) z))) ns (un_perm_bits-lt n (width_of ns ok) y)
-      ∙ ap (nibbles_of (length ns)) (sym (unround-is n j (width_of ns ok) p c s (state_of_lt ns ok.small)))
+      ∙ by_by (λ m. xored m (key_bit j p)) (λ m z. xored m (constant_bit m c) z) ns (xored-lt n (constant_bit n c) s))
+      ∙ by_by un_perm_bits (λ m z. xored m (key_bit j p) (xored m (constant_bit m c) z)) ns (xored-lt n (key_bit j p) x))
+      ∙ by_by (sub_cells unentry) (λ m z. un_perm_bits m (xored m (key_bit j p) (xored m (constant_bit m c) z))) ns (un_perm_bits-lt n (width_of ns ok) y)
+      ∙ ap (nibbles_of (length ns)) (sym (unround_is n j (width_of ns ok) p c s (state_of_lt ns ok.small)))
 
 -- ---- the rounds that follow r of them: none, or one and those that follow it; `uv` takes a round's pair from the key state
 
-pub constant-next : (r : ℕ) {c next : ℕ} → c ≡ constant r → next ≡ step c → next ≡ constant (r + 1)
+pub constant_next : (r : ℕ) {c next : ℕ} → c ≡ constant r → next ≡ step c → next ≡ constant (r + 1)
 unfolding constant
-constant-next r e stepped = stepped ∙ ap step e ∙ ap constant (sym (add-one r))
+constant_next r e stepped = stepped ∙ ap step e ∙ ap constant (sym (add-one r))
 
 module _ (n j : ℕ) (uv : ℕ → Pair) (all r key x : ℕ) where
   module _ (none : all ≤ r) where
@@ -78,9 +78,9 @@ module _ (n j : ℕ) (uv : ℕ → Pair) (all r key x : ℕ) where
     left : all - r ≡ suc (all - (r + 1))
     left = omega arith
 
-    pub round-first : {x' : ℕ} → x' ≡ round n j p c x → rounds n j (pairs uv (all - (r + 1)) key') (r + 1) x' ≡ rounds n j (pairs uv (all - r) key) r x
+    pub round_first : {x' : ℕ} → x' ≡ round n j p c x → rounds n j (pairs uv (all - (r + 1)) key') (r + 1) x' ≡ rounds n j (pairs uv (all - r) key) r x
     unfolding rounds pairs
-    round-first e = rw (e, paired, stepped, updated, left, add-one r)
+    round_first e = rw (e, paired, stepped, updated, left, add-one r)
 
     pub round-last : unround n j p c (unrounds n j (pairs uv (all - (r + 1)) key') (r + 1) x) ≡ unrounds n j (pairs uv (all - r) key) r x
     unfolding unrounds pairs
@@ -88,11 +88,11 @@ module _ (n j : ℕ) (uv : ℕ → Pair) (all r key x : ℕ) where
 
 -- ---- nibbles, of either member
 
-pub state-after : (step : ℕ → ℕ → ℕ) (ns : List ℕ) {now : List ℕ} → step (4 * length ns) (state_of ns) < 2 ^ (4 * length ns) → now ≡ by step ns → state_of now ≡ step (4 * length ns) (state_of ns)
-state-after step ns h e = ap state_of e ∙ state_of_nibbles_of (length ns) (step (4 * length ns) (state_of ns)) h
+pub state_after : (step : ℕ → ℕ → ℕ) (ns : List ℕ) {now : List ℕ} → step (4 * length ns) (state_of ns) < 2 ^ (4 * length ns) → now ≡ by step ns → state_of now ≡ step (4 * length ns) (state_of ns)
+state_after step ns h e = ap state_of e ∙ state_of_nibbles_of (length ns) (step (4 * length ns) (state_of ns)) h
 
-pub nibbles-of-state : (ns : List ℕ) (x : ℕ) → Nibbles ns → state_of ns ≡ x → ns ≡ nibbles_of (length ns) x
-nibbles-of-state ns x ok e = nibbles_of_state_of ns ok.small ∙ ap (nibbles_of (length ns)) e
+pub nibbles_of_state : (ns : List ℕ) (x : ℕ) → Nibbles ns → state_of ns ≡ x → ns ≡ nibbles_of (length ns) x
+nibbles_of_state ns x ok e = nibbles_of_state_of ns ok.small ∙ ap (nibbles_of (length ns)) e
 
 pub count_most : (n : ℕ) → count_of n ≤ 40
 count_most n = cond_either (λ (x : ℕ). x ≤ 40) (eqb n 16) 28 40 (λ e. lit≤ tt) (λ e. lit≤ tt)

@@ -18,11 +18,11 @@ pub record Through (f : ℕ → ℕ) (ns : List ℕ) (i : ℕ) (now : List ℕ) 
   pub rest : (k : ℕ) → i ≤ k → get_or now k 0 ≡ get_or ns k 0
 
 module _ (f : ℕ → ℕ) (ns : List ℕ) where
-  pub through-none : Through f ns 0 ns
-  through-none = record { same = refl; past = λ k h. omega arith; rest = λ k h. refl }
+  pub through_none : Through f ns 0 ns
+  through_none = record { same = refl; past = λ k h. omega arith; rest = λ k h. refl }
 
-  pub through-next : (i : ℕ) (now : List ℕ) → Through f ns i now → i < length now → Through f ns (i + 1) (set now i (f (get_or now i 0)))
-  through-next i now t h =
+  pub through_next : (i : ℕ) (now : List ℕ) → Through f ns i now → i < length now → Through f ns (i + 1) (set now i (f (get_or now i 0)))
+  through_next i now t h =
       record {
         same = length-set now i (f (get_or now i 0)) ∙ t.same;
         past =
@@ -34,9 +34,9 @@ module _ (f : ℕ → ℕ) (ns : List ℕ) where
         rest = λ k l. get_or-set_other now i k (f (get_or now i 0)) 0 (λ e. omega arith) ∙ t.rest k (omega arith);
       }
 
-  pub through-all : (i : ℕ) (now : List ℕ) → ((x : ℕ) → x < 16 → f x < 16) → ((k : ℕ) → get_or ns k 0 < 16) → Through f ns i now → length ns ≤ i
+  pub through_all : (i : ℕ) (now : List ℕ) → ((x : ℕ) → x < 16 → f x < 16) → ((k : ℕ) → get_or ns k 0 < 16) → Through f ns i now → length ns ≤ i
       → now ≡ nibbles_of (length ns) (number 16 (4 * length ns / 4) (λ k. f (digit 16 (state_of ns) k)))
-  through-all i now f_lt small t h =
+  through_all i now f_lt small t h =
       let s : ℕ = state_of ns in
       let quarter : 4 * length ns / 4 ≡ length ns = omega arith in
       nibbles_are (length ns) (number 16 (4 * length ns / 4) (λ k. f (digit 16 s k))) now t.same

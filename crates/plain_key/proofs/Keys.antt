@@ -27,27 +27,27 @@ module _ (k : List ℕ) (words : (i : ℕ) → get_or k i 0 < 65536) where
   word : (i : ℕ) → i < 8 → digit 65536 (key_of k) i ≡ get_or k i 0
   word i h = digit-number 65536 (lit< tt) 8 (λ j. get_or k j 0) (λ j l. words j) i h
 
-  pub update-is :
+  pub update_is :
       key_of (get_or k 2 0 ∷ get_or k 3 0 ∷ get_or k 4 0 ∷ get_or k 5 0 ∷ get_or k 6 0 ∷ get_or k 7 0 ∷ ror16 12 (get_or k 0 0) ∷ ror16 2 (get_or k 1 0) ∷ []) ≡ update (key_of k)
   unfolding update
-  update-is =
+  update_is =
       rw (word 0 (lit< tt), word 1 (lit< tt), word 2 (lit< tt), word 3 (lit< tt), word 4 (lit< tt), word 5 (lit< tt), word 6 (lit< tt), word 7 (lit< tt)) (in_words _ _ _ _ _ _ _ _)
 
-  pub u-is : get_or k 5 0 * 65536 + get_or k 4 0 ≡ (pair_of (key_of k)).u
+  pub u_is : get_or k 5 0 * 65536 + get_or k 4 0 ≡ (pair_of (key_of k)).u
   unfolding pair_of
-  u-is = rw (word 5 (lit< tt), word 4 (lit< tt))
+  u_is = rw (word 5 (lit< tt), word 4 (lit< tt))
 
-  pub v-is : get_or k 1 0 * 65536 + get_or k 0 0 ≡ (pair_of (key_of k)).v
+  pub v_is : get_or k 1 0 * 65536 + get_or k 0 0 ≡ (pair_of (key_of k)).v
   unfolding pair_of
-  v-is = rw (word 1 (lit< tt), word 0 (lit< tt))
+  v_is = rw (word 1 (lit< tt), word 0 (lit< tt))
 
-  pub small-u-is : get_or k 1 0 ≡ (pair_of64 (key_of k)).u
+  pub small_u_is : get_or k 1 0 ≡ (pair_of64 (key_of k)).u
   unfolding pair_of64
-  small-u-is = sym (word 1 (lit< tt))
+  small_u_is = sym (word 1 (lit< tt))
 
-  pub small-v-is : get_or k 0 0 ≡ (pair_of64 (key_of k)).v
+  pub small_v_is : get_or k 0 0 ≡ (pair_of64 (key_of k)).v
   unfolding pair_of64
-  small-v-is = sym (word 0 (lit< tt))
+  small_v_is = sym (word 0 (lit< tt))
 
 -- ---- a word rotated
 

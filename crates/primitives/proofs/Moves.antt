@@ -27,9 +27,9 @@ unfolding permuted
 permuted-id π x e h = permuted_cong π (λ i. i) x e ∙ of_bits_bit 32 x h
 
 -- first σ, then π
-pub permuted-then : (π σ : ℕ → ℕ) (x : ℕ) → ((i : ℕ) → i < 32 → π i < 32) → permuted π (permuted σ x) ≡ permuted (λ i. σ (π i)) x
+pub permuted_then : (π σ : ℕ → ℕ) (x : ℕ) → ((i : ℕ) → i < 32 → π i < 32) → permuted π (permuted σ x) ≡ permuted (λ i. σ (π i)) x
 unfolding permuted
-permuted-then π σ x h =
+permuted_then π σ x h =
     of_bits_cong 32 (λ i. bit (permuted σ x) (π i)) (λ i. bit x (σ (π i))) (λ i l. bit-permuted σ x (π i) (h i l))
 
 -- an expression of one word is the move π, by the test

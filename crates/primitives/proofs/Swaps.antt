@@ -45,8 +45,8 @@ taken false y true = refl
 taken true false true = refl
 taken true true true = refl
 
-taken-up : (x y m : Bool) → x ⊕ (m && (y ⊕ x)) ≡ cond m y x
-taken-up x y m = ap (λ (z : Bool). x ⊕ (m && z)) (⊕_comm y x) ∙ taken x y m
+taken_up : (x y m : Bool) → x ⊕ (m && (y ⊕ x)) ≡ cond m y x
+taken_up x y m = ap (λ (z : Bool). x ⊕ (m && z)) (⊕_comm y x) ∙ taken x y m
 
 module _ (a b mask k : ℕ) (ha : a < 2 ^ 32) (hb : b < 2 ^ 32) (hm : mask < 2 ^ 32) where
   tmp-lt : tmp a b mask k < 2 ^ 32
@@ -65,7 +65,7 @@ module _ (a b mask k : ℕ) (ha : a < 2 ^ 32) (hb : b < 2 ^ 32) (hm : mask < 2 ^
       bit_ext 32 (bit_xor a (tmp a b mask k * 2 ^ k % 2 ^ 32)) (swapped_high a b mask k)
       (xor_lt 32 a (tmp a b mask k * 2 ^ k % 2 ^ 32) ha (mod-lt (tmp a b mask k * 2 ^ k) (pow_pos 32))) (of_bits_lt 32 _)
       (λ i h. bit-xor a (tmp a b mask k * 2 ^ k % 2 ^ 32) i ∙ ap (λ (x : Bool). bit a i ⊕ x) (bit_up a b mask k i h)
-      ∙ taken-up (bit a i) (bit b (i - k)) (leb k i && bit mask (i - k))
+      ∙ taken_up (bit a i) (bit b (i - k)) (leb k i && bit mask (i - k))
       ∙ sym (bit_of_bits 32 (λ j. cond (leb k j && bit mask (j - k)) (bit b (j - k)) (bit a j)) i h))
 
 -- in one word
@@ -88,9 +88,9 @@ exchange mask n i = cond (bit mask i) (i + n) (cond (leb n i && bit mask (i - n)
 abbrev pub apart : ℕ → ℕ → Bool
 apart mask n = below 32 (λ i. not (bit mask i && (leb n i && bit mask (i - n))))
 
-pub swap-is-move : (a mask n : ℕ) → T (apart mask n) → swapped_single a mask n ≡ permuted (exchange mask n) a
+pub swap_is_move : (a mask n : ℕ) → T (apart mask n) → swapped_single a mask n ≡ permuted (exchange mask n) a
 unfolding swapped_single permuted
-swap-is-move a mask n t =
+swap_is_move a mask n t =
     of_bits_cong 32 _ _
     (λ i h. go (bit mask i) (leb n i && bit mask (i - n)) (i + n) (i - n) i (at 32 (λ j. not (bit mask j && (leb n j && bit mask (j - n)))) t i h))
   where
@@ -98,5 +98,5 @@ swap-is-move a mask n t =
         → bit a i ⊕ (m && (bit a i ⊕ bit a up)) ⊕ (u && (bit a down ⊕ bit a i)) ≡ bit a (cond m up (cond u down i))
     go true true up down i t = absurd t
     go true false up down i t = ⊕-false (bit a i ⊕ (bit a i ⊕ bit a up)) ∙ taken (bit a i) (bit a up) true
-    go false true up down i t = ap (λ (x : Bool). x ⊕ (bit a down ⊕ bit a i)) (⊕-false (bit a i)) ∙ taken-up (bit a i) (bit a down) true
+    go false true up down i t = ap (λ (x : Bool). x ⊕ (bit a down ⊕ bit a i)) (⊕-false (bit a i)) ∙ taken_up (bit a i) (bit a down) true
     go false false up down i t = ⊕-false (bit a i ⊕ false) ∙ ⊕-false (bit a i)

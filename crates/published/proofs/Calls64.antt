@@ -11,9 +11,9 @@ use Rattle.answers.proofs.Passed.{passed}
 use Rattle.answers.proofs.Outcome.{one_outcome}
 use Rattle.published.specs.Calls64.{key_code64, CiphersByKey64, CiphersBlocks64}
 
-pub key-passed-64 : (key block : ℕ) → key_code64 key block ≡ 0 → (key ≡ 16) × (block ≡ 8)
+pub key_passed_64 : (key block : ℕ) → key_code64 key block ≡ 0 → (key ≡ 16) × (block ≡ 8)
 unfolding key_code64
-key-passed-64 key block e =
+key_passed_64 key block e =
     let p1 = passed (eqb key 16) BAD_KEY_LENGTH _ refl e in
     let p2 = passed (eqb block 8) BAD_BLOCK_LENGTH DONE refl p1.1 in
     (eqb-true key 16 p1.0, eqb-true block 8 p2.0)
@@ -22,5 +22,5 @@ module _ (back : Bool) (key block input output : List ℕ) where
   pub by_key : OneOutcome (CiphersByKey64 back key block)
   by_key = one_outcome _ _ _
 
-  pub blocks-by-key : OneOutcome (CiphersBlocks64 back key input output)
-  blocks-by-key = one_outcome _ _ _
+  pub blocks_by_key : OneOutcome (CiphersBlocks64 back key input output)
+  blocks_by_key = one_outcome _ _ _

@@ -84,6 +84,6 @@ facts64 =
     is (0x91 ∷ replicate 6 0x11) ++ (0x19 ∷ []))
     ∷ []
 
-pub small-facts-64 : T (hold facts64)
+pub small_facts_64 : T (hold facts64)
 unfolding digit number bit of_bits from_bytes to_bytes entry sub_cells P moved perm_bits xored key_bit constant_bit step constant round rounds ror16 update pairs pair_of64
-small-facts-64 = tt
+small_facts_64 = tt

@@ -22,11 +22,11 @@ pub block-lt : (block : List ℕ) → length block ≡ 16 → Bytes block → fr
 block-lt = state-lt 128 16 refl
 
 -- either way, a block comes of a block
-pub rounds-all-lt : (back : Bool) (ps : List Pair) (x : ℕ) → x < 2 ^ 128 → rounds_all back ps x < 2 ^ 128
-rounds-all-lt false ps = rounds-lt 128 1 width128 ps 0
-rounds-all-lt true ps = unrounds-lt 128 1 width128 ps 0
+pub rounds_all_lt : (back : Bool) (ps : List Pair) (x : ℕ) → x < 2 ^ 128 → rounds_all back ps x < 2 ^ 128
+rounds_all_lt false ps = rounds-lt 128 1 width128 ps 0
+rounds_all_lt true ps = unrounds-lt 128 1 width128 ps 0
 
 -- and each way undoes the other
-pub all-undone : (back : Bool) (ps : List Pair) (x : ℕ) → x < 2 ^ 128 → rounds_all (not back) ps (rounds_all back ps x) ≡ x
-all-undone false ps = unrounds-rounds 128 1 width128 ps 0
-all-undone true ps = rounds-unrounds 128 1 width128 ps 0
+pub all_undone : (back : Bool) (ps : List Pair) (x : ℕ) → x < 2 ^ 128 → rounds_all (not back) ps (rounds_all back ps x) ≡ x
+all_undone false ps = unrounds-rounds 128 1 width128 ps 0
+all_undone true ps = rounds-unrounds 128 1 width128 ps 0

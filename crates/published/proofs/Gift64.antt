@@ -12,14 +12,14 @@ pub width64 : Width 64
 width64 = width 4
 
 -- a block of 8 bytes is a state of 64 bits
-pub block-lt-64 : (block : List ℕ) → length block ≡ 8 → Bytes block → from_bytes block < 2 ^ 64
-block-lt-64 = state-lt 64 8 refl
+pub block_lt_64 : (block : List ℕ) → length block ≡ 8 → Bytes block → from_bytes block < 2 ^ 64
+block_lt_64 = state-lt 64 8 refl
 
 module _ (key block : List ℕ) (len : length block ≡ 8) (h : Bytes block) where
-  pub decrypted-encrypted-64 : decrypted64 key (encrypted64 key block) ≡ block
+  pub decrypted_encrypted_64 : decrypted64 key (encrypted64 key block) ≡ block
   unfolding encrypted64 decrypted64
-  decrypted-encrypted-64 = undone 64 8 refl block len h 0 width64 (pairs_of64 key)
+  decrypted_encrypted_64 = undone 64 8 refl block len h 0 width64 (pairs_of64 key)
 
-  pub encrypted-decrypted-64 : encrypted64 key (decrypted64 key block) ≡ block
+  pub encrypted_decrypted_64 : encrypted64 key (decrypted64 key block) ≡ block
   unfolding encrypted64 decrypted64
-  encrypted-decrypted-64 = redone 64 8 refl block len h 0 width64 (pairs_of64 key)
+  encrypted_decrypted_64 = redone 64 8 refl block len h 0 width64 (pairs_of64 key)

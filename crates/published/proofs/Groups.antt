@@ -11,20 +11,20 @@ use Rattle.published.proofs.Many.{each_more, written}
 
 -- ---- joined
 
-pub joined-none : (g : ℕ → List ℕ) → joined 0 g ≡ []
+pub joined_none : (g : ℕ → List ℕ) → joined 0 g ≡ []
 unfolding joined
-joined-none g = refl
+joined_none g = refl
 
 pub joined_cong : (n : ℕ) (g h : ℕ → List ℕ) → ((k : ℕ) → k < n → g k ≡ h k) → joined n g ≡ joined n h
 unfolding joined
 joined_cong zero g h e = refl
 joined_cong (suc n) g h e = ap₂ ◌++◌ (joined_cong n g h (λ k l. e k (omega arith))) (e n (omega arith))
 
-pub each-joined : (size : ℕ) (f : List ℕ → List ℕ) (n : ℕ) (input : List ℕ) → each_of size f n input ≡ joined n (λ k. f (take size (drop (size * k) input)))
+pub each_joined : (size : ℕ) (f : List ℕ → List ℕ) (n : ℕ) (input : List ℕ) → each_of size f n input ≡ joined n (λ k. f (take size (drop (size * k) input)))
 unfolding each_of joined
-each-joined size f zero input = refl
-each-joined size f (suc n) input =
-    each_more size f n input ∙ ap (λ (l : List ℕ). l ++ f (take size (drop (size * n) input))) (each-joined size f n input)
+each_joined size f zero input = refl
+each_joined size f (suc n) input =
+    each_more size f n input ∙ ap (λ (l : List ℕ). l ++ f (take size (drop (size * n) input))) (each_joined size f n input)
 
 -- the part at place a was written, and joins those before it
 pub joined-put : (size : ℕ) (g : ℕ → List ℕ) (out new rest : List ℕ) (n : ℕ) → size * n ≤ length out → length new ≡ size
@@ -45,15 +45,15 @@ module _ (size : ℕ) (f : List ℕ → List ℕ) where
   next : (m : ℕ) → size + size * m ≡ size * suc m
   next m = add_comm size (size * m) ∙ sym (mul-suc size m)
 
-  pub each-add : (m n : ℕ) (input : List ℕ) → each_of size f (m + n) input ≡ each_of size f m input ++ each_of size f n (drop (size * m) input)
+  pub each_add : (m n : ℕ) (input : List ℕ) → each_of size f (m + n) input ≡ each_of size f m input ++ each_of size f n (drop (size * m) input)
   unfolding each_of
-  each-add zero n input =
+  each_add zero n input =
       let none : 0 + n ≡ n = omega arith in
       ap (λ (k : ℕ). each_of size f k input) none ∙ ap (λ (k : ℕ). each_of size f n (drop k input)) (sym (mul-zero size))
-  each-add (suc m) n input =
+  each_add (suc m) n input =
       let more : suc m + n ≡ suc (m + n) = omega arith in
       ap (λ (k : ℕ). each_of size f k input) more
-      ∙ ap (λ (l : List ℕ). f (take size input) ++ l) (each-add m n (drop size input))
+      ∙ ap (λ (l : List ℕ). f (take size input) ++ l) (each_add m n (drop size input))
       ∙ sym (append_assoc (f (take size input)) (each_of size f m (drop size input)) (each_of size f n (drop (size * m) (drop size input))))
       ∙ ap (λ (l : List ℕ). (f (take size input) ++ each_of size f m (drop size input)) ++ each_of size f n l) (drop-drop (size * m) size input ∙ ap (λ (k : ℕ). drop k input) (next m))
 
@@ -78,11 +78,11 @@ all_in_two f m input h l whole =
     let first : m / 16 ≡ length (take m input) / 16 = rw length-take (omega arith) in
     let last : (length input - m) / 16 ≡ length (drop m input) / 16 = rw length-drop (omega arith) in
     ap (λ (n : ℕ). each_of 16 f n input) count
-    ∙ each-add 16 f (m / 16) ((length input - m) / 16) input
+    ∙ each_add 16 f (m / 16) ((length input - m) / 16) input
     ∙ ap₂ ◌++◌ (sym (each_take 16 f (m / 16) input) ∙ ap₂ (λ (k n : ℕ). each_of 16 f n (take k input)) at first) (ap₂ (λ (k n : ℕ). each_of 16 f n (drop k input)) at last)
 
 -- all of them, where those before a are written and a is the end
-pub all-written : (f : List ℕ → List ℕ) (input out : List ℕ) (a : ℕ) → a ≡ length input → length out ≡ length input → take a out ≡ each_of 16 f (a / 16) input → out ≡ all_of 16 f input
+pub all_written : (f : List ℕ → List ℕ) (input out : List ℕ) (a : ℕ) → a ≡ length input → length out ≡ length input → take a out ≡ each_of 16 f (a / 16) input → out ≡ all_of 16 f input
 unfolding all_of
-all-written f input out a e len done =
+all_written f input out a e len done =
     sym (take_all a out (le_of_eq (len ∙ sym e))) ∙ done ∙ ap (λ (m : ℕ). each_of 16 f (m / 16) input) e

@@ -34,8 +34,8 @@ module _ (size : ℕ) where
       ∙ ap (λ (l : List ℕ). take a out ++ l) (take-append_seam new rest)
 
   -- the part that is a block
-  pub one-part : (a : ℕ) (l : List ℕ) → a + size ≤ length l → length (take (a + size - a) (drop a l)) ≡ size
-  one-part a l h = simp (length-take, length-drop) (omega arith)
+  pub one_part : (a : ℕ) (l : List ℕ) → a + size ≤ length l → length (take (a + size - a) (drop a l)) ≡ size
+  one_part a l h = simp (length-take, length-drop) (omega arith)
 
   -- block n, at place a, was written: those before a + size are
   pub one_more : (f : List ℕ → List ℕ) (input out new rest : List ℕ) (a n : ℕ) → size * n ≡ a → a ≤ length out → length new ≡ size

@@ -13,8 +13,8 @@ module _ (w : ℕ) (ok : Width w) (n j : ℕ) (hn : n < w / 4) (hj : j < 4) wher
   place-lt = omega (arith, ok.whole)
 
   -- P keeps the place in a nibble, and comes from a nibble
-  back-keeps : back w (4 * n + j) ≡ 4 * (back w (4 * n + j) / 4) + j
-  back-keeps = let low : (4 * n + j) % 4 ≡ j = omega arith in omega arith
+  back_keeps : back w (4 * n + j) ≡ 4 * (back w (4 * n + j) / 4) + j
+  back_keeps = let low : (4 * n + j) % 4 ≡ j = omega arith in omega arith
 
   pub source_lt : back w (4 * n + j) / 4 < w / 4
   source_lt = omega (arith, ok.whole, ok.back_lt (4 * n + j) place-lt)
@@ -27,5 +27,5 @@ module _ (w : ℕ) (ok : Width w) (n j : ℕ) (hn : n < w / 4) (hj : j < 4) wher
       ∙ ap (λ (x : Bool). x ⊕ constant_bit w c (4 * n + j))
       (bit-xored w (key_bit J p) (perm_bits w (sub_cells entry w b)) (4 * n + j) place-lt
       ∙ ap (λ (x : Bool). x ⊕ key_bit J p (4 * n + j))
-      (bit-perm_bits w ok (sub_cells entry w b) (4 * n + j) place-lt ∙ ap (bit (sub_cells entry w b)) back-keeps
+      (bit-perm_bits w ok (sub_cells entry w b) (4 * n + j) place-lt ∙ ap (bit (sub_cells entry w b)) back_keeps
       ∙ bit-sub_cells w ok entry entry_lt b (back w (4 * n + j) / 4) j source_lt hj))

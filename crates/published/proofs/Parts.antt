@@ -9,7 +9,7 @@ use lib.Seq.{take_at, take-take, take_all}
 use borrow.Rule.Slice.PartMut.{put_mid}
 use Rattle.published.specs.Blocks.{each_of, all_of}
 use Rattle.published.proofs.Many.{written}
-use Rattle.published.proofs.Groups.{each-add, each_take}
+use Rattle.published.proofs.Groups.{each_add, each_take}
 
 -- ---- groups of as many blocks each
 
@@ -23,22 +23,22 @@ group_more blocks size e f input out new rest a h l len before here =
     let next : a / 16 + blocks ≡ (a + size) / 16 = omega arith in
     written size a out new rest l len
     ∙ ap₂ ◌++◌ before (here ∙ ap (λ (k : ℕ). each_of 16 f blocks (take k (drop a input))) whole ∙ each_take 16 f blocks (drop a input) ∙ ap (λ (k : ℕ). each_of 16 f blocks (drop k input)) at)
-    ∙ sym (each-add 16 f (a / 16) blocks input)
+    ∙ sym (each_add 16 f (a / 16) blocks input)
     ∙ ap (λ (n : ℕ). each_of 16 f n input) next
 
 -- ---- blocks that have sixteen bytes each
 
 module _ (f : List ℕ → List ℕ) (sixteen : (l : List ℕ) → length (f l) ≡ 16) where
-  each-length : (n : ℕ) (input : List ℕ) → length (each_of 16 f n input) ≡ 16 * n
+  each_length : (n : ℕ) (input : List ℕ) → length (each_of 16 f n input) ≡ 16 * n
   unfolding each_of
-  each-length zero input = refl
-  each-length (suc n) input =
+  each_length zero input = refl
+  each_length (suc n) input =
       let next : 16 + 16 * n ≡ 16 * suc n = omega arith in
-      length-append (f (take 16 input)) (each_of 16 f n (drop 16 input)) ∙ ap₂ ◌+◌ (sixteen (take 16 input)) (each-length n (drop 16 input)) ∙ next
+      length-append (f (take 16 input)) (each_of 16 f n (drop 16 input)) ∙ ap₂ ◌+◌ (sixteen (take 16 input)) (each_length n (drop 16 input)) ∙ next
 
   -- the first of several
-  each-front : (j k : ℕ) (input : List ℕ) → take (16 * j) (each_of 16 f (j + k) input) ≡ each_of 16 f j input
-  each-front j k input = ap (take (16 * j)) (each-add 16 f j k input) ∙ take_at (each_of 16 f j input) (each_of 16 f k (drop (16 * j) input)) (16 * j) (each-length j input)
+  each_front : (j k : ℕ) (input : List ℕ) → take (16 * j) (each_of 16 f (j + k) input) ≡ each_of 16 f j input
+  each_front j k input = ap (take (16 * j)) (each_add 16 f j k input) ∙ take_at (each_of 16 f j input) (each_of 16 f k (drop (16 * j) input)) (16 * j) (each_length j input)
 
   -- the rest, written from place e on
   pub ended : (input out new : List ℕ) (e m : ℕ) → e % 16 ≡ 0 → m % 16 ≡ 0 → e ≤ m → m ≤ length input → length input % 16 ≡ 0 → length out ≡ length input
@@ -53,14 +53,14 @@ module _ (f : List ℕ → List ℕ) (sixteen : (l : List ℕ) → length (f l) 
       let blocks : length (drop e input) / 16 ≡ (length input - e) / 16 = rw length-drop in
       let front : take e out ≡ each_of 16 f (e / 16) input =
       sym (take-take e m out less) ∙ ap (take e) (before ∙ ap (λ (n : ℕ). each_of 16 f n input) count)
-      ∙ ap (λ (n : ℕ). take n (each_of 16 f (e / 16 + (m - e) / 16) input)) (sym at) ∙ each-front (e / 16) ((m - e) / 16) input in
+      ∙ ap (λ (n : ℕ). take n (each_of 16 f (e / 16 + (m - e) / 16) input)) (sym at) ∙ each_front (e / 16) ((m - e) / 16) input in
       let back : new ≡ each_of 16 f ((length input - e) / 16) (drop (16 * (e / 16)) input) =
       here ∙ ap (λ (l : List ℕ). each_of 16 f (length l / 16) l) (take_all (length input - e) (drop e input) all)
       ∙ ap₂ (λ (n k : ℕ). each_of 16 f n (drop k input)) blocks (sym at) in
       ap₂ (λ (a b : List ℕ). a ++ (b ++ drop (length out - e) (drop e out))) front back
       ∙ ap (λ (l : List ℕ). each_of 16 f (e / 16) input ++ (each_of 16 f ((length input - e) / 16) (drop (16 * (e / 16)) input) ++ l)) (drop_of_length-le (drop e out) short)
       ∙ ap (λ (l : List ℕ). each_of 16 f (e / 16) input ++ l) (append-nil (each_of 16 f ((length input - e) / 16) (drop (16 * (e / 16)) input)))
-      ∙ sym (each-add 16 f (e / 16) ((length input - e) / 16) input)
+      ∙ sym (each_add 16 f (e / 16) ((length input - e) / 16) input)
       ∙ ap (λ (n : ℕ). each_of 16 f n input) (sym total)
 
 pub part_length : (l : List ℕ) (m : ℕ) → m % 16 ≡ 0 → length l % 16 ≡ 0 → length (take (length l - m) (drop m l)) % 16 ≡ 0

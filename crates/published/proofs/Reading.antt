@@ -60,8 +60,8 @@ read-digits zero x = refl
 read-digits (suc k) x = ap₂ (λ (l y : ℕ). digit 256 x k * 256 ^ l + y) (length_to_bytes k x) (read-digits k x)
 
 -- a number of k bytes, written and read
-pub from-to : (k x : ℕ) → x < 256 ^ k → from_bytes (to_bytes k x) ≡ x
-from-to k x h = read-digits k x ∙ number-digit 256 base k x h
+pub from_to : (k x : ℕ) → x < 256 ^ k → from_bytes (to_bytes k x) ≡ x
+from_to k x h = read-digits k x ∙ number-digit 256 base k x h
 
 -- the low bytes are those of the rest, whatever stands above them
 to_bytes_low : (k n d r : ℕ) → k < suc n → to_bytes k (d * 256 ^ n + r) ≡ to_bytes k r
@@ -70,12 +70,12 @@ to_bytes_low zero n d r h = refl
 to_bytes_low (suc k) n d r h = ap₂ ◌∷◌ (digit-below 256 base n d r k (le_of_suc-le-suc h)) (to_bytes_low k n d r (le_of_suc-le h))
 
 -- bytes read and written
-pub to-from : (bs : List ℕ) → Bytes bs → to_bytes (length bs) (from_bytes bs) ≡ bs
+pub to_from : (bs : List ℕ) → Bytes bs → to_bytes (length bs) (from_bytes bs) ≡ bs
 unfolding from_bytes to_bytes
-to-from [] h = refl
-to-from (b ∷ bs) h =
+to_from [] h = refl
+to_from (b ∷ bs) h =
     ap₂ ◌∷◌ (digit_top 256 base (length bs) b (from_bytes bs) (h 0) (from_bytes-lt bs (λ i. h (suc i))))
-    (to_bytes_low (length bs) (length bs) b (from_bytes bs) (le_refl (suc (length bs))) ∙ to-from bs (λ i. h (suc i)))
+    (to_bytes_low (length bs) (length bs) b (from_bytes bs) (le_refl (suc (length bs))) ∙ to_from bs (λ i. h (suc i)))
 
 -- digit m of bytes read as a number is the byte that stands m from the end, and so with its bits
 pub digit-from_bytes : (bs : List ℕ) → Bytes bs → (m : ℕ) → m < length bs → digit 256 (from_bytes bs) m ≡ get_or bs (length bs - 1 - m) 0

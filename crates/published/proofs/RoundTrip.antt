@@ -5,7 +5,7 @@ use Prim.Native.Nat.{ℕ, ◌^◌, ◌<◌}
 use lib.ListN.{length}
 use Rattle.published.specs.Bytes.{from_bytes, to_bytes, Bytes}
 use Rattle.published.specs.Rounds.{Pair, rounds, unrounds}
-use Rattle.published.proofs.Reading.{from-to, to-from, from_bytes-lt}
+use Rattle.published.proofs.Reading.{from_to, to_from, from_bytes-lt}
 use Rattle.published.proofs.Steps.{Width}
 use Rattle.published.proofs.Undone.{rounds-lt, unrounds-lt, unrounds-rounds, rounds-unrounds}
 
@@ -16,11 +16,11 @@ module _ (n size : ℕ) (whole : 256 ^ size ≡ 2 ^ n) (block : List ℕ) (len :
 
   module _ (j : ℕ) (ok : Width n) (ps : List Pair) where
     same : to_bytes size (from_bytes block) ≡ block
-    same = ap (λ (k : ℕ). to_bytes k (from_bytes block)) (sym len) ∙ to-from block h
+    same = ap (λ (k : ℕ). to_bytes k (from_bytes block)) (sym len) ∙ to_from block h
 
     -- what was written is read again
     again : (x : ℕ) → x < 2 ^ n → from_bytes (to_bytes size x) ≡ x
-    again x l = from-to size x (rw whole l)
+    again x l = from_to size x (rw whole l)
 
     pub undone : to_bytes size (unrounds n j ps 0 (from_bytes (to_bytes size (rounds n j ps 0 (from_bytes block))))) ≡ block
     undone =

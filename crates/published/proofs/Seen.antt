@@ -11,7 +11,7 @@ use Rattle.bits.proofs.Computed.{agree, bounded}
 use Rattle.published.specs.Bytes.{from_bytes, to_bytes, Bytes}
 use Rattle.published.specs.Packing.{word}
 use Rattle.published.specs.Seen.{Order, word_at, read_words, write_words, read_in, write_in, seen}
-use Rattle.published.proofs.Reading.{length_to_bytes, from-to, to-from, from_bytes-lt, bit-from_bytes, no_bytes, bytes_to_bytes, bytes-append}
+use Rattle.published.proofs.Reading.{length_to_bytes, from_to, to_from, from_bytes-lt, bit-from_bytes, no_bytes, bytes_to_bytes, bytes-append}
 use Rattle.published.proofs.Listed.{each}
 use Rattle.published.proofs.Words.{four, word_lt, from_words-lt, bit-from_words, from_words-word, word-from_words}
 use Rattle.published.proofs.Gift128.{block-lt}
@@ -24,8 +24,8 @@ number-order =
       block = block-lt;
       sixteen = length_to_bytes 16;
       bytes = bytes_to_bytes 16;
-      written = from-to 16;
-      again = λ bytes len h. ap (λ (k : ℕ). to_bytes k (from_bytes bytes)) (sym len) ∙ to-from bytes h;
+      written = from_to 16;
+      again = λ bytes len h. ap (λ (k : ℕ). to_bytes k (from_bytes bytes)) (sym len) ∙ to_from bytes h;
     }
 
 -- ---- order 1
@@ -49,7 +49,7 @@ word_at_written : (x j : ℕ) → j < 4 → word_at (write_words x) j ≡ word 1
 unfolding write_words to_bytes
 word_at_written x =
     four (λ (j : ℕ). word_at (write_words x) j ≡ word 128 x j)
-    (from-to 4 (word 128 x 0) (word_lt x 0)) (from-to 4 (word 128 x 1) (word_lt x 1)) (from-to 4 (word 128 x 2) (word_lt x 2)) (from-to 4 (word 128 x 3) (word_lt x 3))
+    (from_to 4 (word 128 x 0) (word_lt x 0)) (from_to 4 (word 128 x 1) (word_lt x 1)) (from_to 4 (word 128 x 2) (word_lt x 2)) (from_to 4 (word 128 x 3) (word_lt x 3))
 
 words-written : (x : ℕ) → x < 2 ^ 128 → read_words (write_words x) ≡ x
 unfolding read_words
@@ -60,13 +60,13 @@ pub word_read : (bytes : List ℕ) → Bytes bytes → (j : ℕ) → j < 4 → w
 unfolding read_words
 word_read bytes h = word-from_words (word_at bytes) (λ j l. word_at_lt bytes h j)
 
-four-again : (bytes : List ℕ) → Bytes bytes → (j : ℕ) → j < 4 → to_bytes 4 (word 128 (read_words bytes) j) ≡ four_at bytes j
-four-again bytes h j l = ap (to_bytes 4) (word_read bytes h j l) ∙ to-from (four_at bytes j) (four_bytes bytes h j)
+four_again : (bytes : List ℕ) → Bytes bytes → (j : ℕ) → j < 4 → to_bytes 4 (word 128 (read_words bytes) j) ≡ four_at bytes j
+four_again bytes h j l = ap (to_bytes 4) (word_read bytes h j l) ∙ to_from (four_at bytes j) (four_bytes bytes h j)
 
-words-again : (bytes : List ℕ) → length bytes ≡ 16 → Bytes bytes → write_words (read_words bytes) ≡ bytes
+words_again : (bytes : List ℕ) → length bytes ≡ 16 → Bytes bytes → write_words (read_words bytes) ≡ bytes
 unfolding write_words
-words-again bytes len h =
-    (λ i. four-again bytes h 0 (lit< tt) i ++ four-again bytes h 1 (lit< tt) i ++ four-again bytes h 2 (lit< tt) i ++ four-again bytes h 3 (lit< tt) i)
+words_again bytes len h =
+    (λ i. four_again bytes h 0 (lit< tt) i ++ four_again bytes h 1 (lit< tt) i ++ four_again bytes h 2 (lit< tt) i ++ four_again bytes h 3 (lit< tt) i)
     ∙ each 16 (λ l. four_at l 0 ++ four_at l 1 ++ four_at l 2 ++ four_at l 3 ≡ l) (λ _ _ _ _ _ _ _ _ _ _ _ _ _ _ _ _. refl) bytes len
 
 words-bytes : (x : ℕ) → Bytes (write_words x)
@@ -84,7 +84,7 @@ words-order =
       sixteen = λ x. refl;
       bytes = words-bytes;
       written = words-written;
-      again = words-again;
+      again = words_again;
     }
 
 -- each number is an order's
@@ -94,9 +94,9 @@ orders (suc _) = words-order
 
 -- ---- what g undoes of f, it undoes of f seen through an order
 
-pub seen-again : (order : ℕ) (f g : ℕ → ℕ) → ((x : ℕ) → x < 2 ^ 128 → f x < 2 ^ 128) → ((x : ℕ) → x < 2 ^ 128 → g (f x) ≡ x)
+pub seen_again : (order : ℕ) (f g : ℕ → ℕ) → ((x : ℕ) → x < 2 ^ 128 → f x < 2 ^ 128) → ((x : ℕ) → x < 2 ^ 128 → g (f x) ≡ x)
     → (bytes : List ℕ) → length bytes ≡ 16 → Bytes bytes → seen order g (seen order f bytes) ≡ bytes
-seen-again order f g f_lt undone bytes len h =
+seen_again order f g f_lt undone bytes len h =
     let o : Order (read_in order) (write_in order) = orders order in
     let x : ℕ = read_in order bytes in
     ap (λ (y : ℕ). write_in order (g y)) (o.written (f x) (f_lt x (o.block bytes len h)))
@@ -160,17 +160,17 @@ outwards x h =
 
 -- Bytes of one order, read in the other.
 pub read-words-number : (x : ℕ) → x < 2 ^ 128 → read_in 1 (write_in 0 x) ≡ placed inward x
-read-words-number x h = inwards (to_bytes 16 x) (length_to_bytes 16 x) (bytes_to_bytes 16 x) ∙ ap (placed inward) (from-to 16 x h)
+read-words-number x h = inwards (to_bytes 16 x) (length_to_bytes 16 x) (bytes_to_bytes 16 x) ∙ ap (placed inward) (from_to 16 x h)
 
 pub read-number-words : (x : ℕ) → x < 2 ^ 128 → read_in 0 (write_in 1 x) ≡ placed outward x
-read-number-words x h = ap from_bytes (outwards x h) ∙ from-to 16 (placed outward x) (of_bits_lt 128 (λ p. bit x (outward p)))
+read-number-words x h = ap from_bytes (outwards x h) ∙ from_to 16 (placed outward x) (of_bits_lt 128 (λ p. bit x (outward p)))
 
 -- Whatever is done to a block: order 1's answer is order 0's answer on the block permuted by one fixed permutation of bits, permuted back.
-pub order-1-by-0 : (f : ℕ → ℕ) → ((x : ℕ) → x < 2 ^ 128 → f x < 2 ^ 128) → (bytes : List ℕ) → length bytes ≡ 16 → Bytes bytes
+pub order_1_by_0 : (f : ℕ → ℕ) → ((x : ℕ) → x < 2 ^ 128 → f x < 2 ^ 128) → (bytes : List ℕ) → length bytes ≡ 16 → Bytes bytes
     → seen 1 f bytes ≡ permuted outward (seen 0 f (permuted inward bytes))
-order-1-by-0 f f_lt bytes len h =
+order_1_by_0 f f_lt bytes len h =
     let x : ℕ = read_words bytes in
     let x_lt : x < 2 ^ 128 = words-order.block bytes len h in
-    let read : from_bytes (permuted inward bytes) ≡ x = from-to 16 (placed inward (from_bytes bytes)) (of_bits_lt 128 (λ q. bit (from_bytes bytes) (inward q))) ∙ sym (inwards bytes len h) in
+    let read : from_bytes (permuted inward bytes) ≡ x = from_to 16 (placed inward (from_bytes bytes)) (of_bits_lt 128 (λ q. bit (from_bytes bytes) (inward q))) ∙ sym (inwards bytes len h) in
     outwards (f x) (f_lt x x_lt)
-    ∙ ap (λ (y : ℕ). to_bytes 16 (placed outward y)) (sym (ap (λ (y : ℕ). from_bytes (to_bytes 16 (f y))) read ∙ from-to 16 (f x) (f_lt x x_lt)))
+    ∙ ap (λ (y : ℕ). to_bytes 16 (placed outward y)) (sym (ap (λ (y : ℕ). from_bytes (to_bytes 16 (f y))) read ∙ from_to 16 (f x) (f_lt x x_lt)))

@@ -30,9 +30,9 @@ module _ (m : ℕ) where
   quarter = omega arith
 
   -- bit j of nibble 4 a + h goes to bit j of nibble a of a quarter, and comes from there
-  P-at : (a h j : ℕ) → h < 4 → j < 4 → P (16 * m) (16 * a + 4 * h + j) ≡ (3 * h + j) % 4 * (4 * m) + (4 * a + j)
+  P_at : (a h j : ℕ) → h < 4 → j < 4 → P (16 * m) (16 * a + 4 * h + j) ≡ (3 * h + j) % 4 * (4 * m) + (4 * a + j)
   unfolding P
-  P-at a h j hh hj =
+  P_at a h j hh hj =
       let e1 : (16 * a + 4 * h + j) / 16 ≡ a = omega arith in
       let e2 : (16 * a + 4 * h + j) % 16 / 4 ≡ h = omega arith in
       let e3 : (16 * a + 4 * h + j) % 4 ≡ j = omega arith in
@@ -49,25 +49,25 @@ module _ (m : ℕ) where
   place : (i : ℕ) → i ≡ 16 * (i / 16) + 4 * (i % 16 / 4) + i % 4
   place i = omega arith
 
-  quarter-of : ℕ → ℕ
-  quarter-of i = (3 * (i % 16 / 4) + i % 4) % 4
+  quarter_of : ℕ → ℕ
+  quarter_of i = (3 * (i % 16 / 4) + i % 4) % 4
 
-  goes : (i : ℕ) → P (16 * m) i ≡ quarter-of i * (4 * m) + (4 * (i / 16) + i % 4)
-  unfolding quarter-of
-  goes i = ap (P (16 * m)) (place i) ∙ P-at (i / 16) (i % 16 / 4) (i % 4) (omega arith) (omega arith)
+  goes : (i : ℕ) → P (16 * m) i ≡ quarter_of i * (4 * m) + (4 * (i / 16) + i % 4)
+  unfolding quarter_of
+  goes i = ap (P (16 * m)) (place i) ∙ P_at (i / 16) (i % 16 / 4) (i % 4) (omega arith) (omega arith)
 
-  goes-lt : (i : ℕ) → i < 16 * m → P (16 * m) i < 16 * m
-  unfolding quarter-of
-  goes-lt i h =
+  goes_lt : (i : ℕ) → i < 16 * m → P (16 * m) i < 16 * m
+  unfolding quarter_of
+  goes_lt i h =
       let low : 4 * (i / 16) + i % 4 < 4 * m = omega arith in
-      let lt : quarter-of i * (4 * m) + (4 * (i / 16) + i % 4) < 4 * (4 * m) = digits_lt (mod-lt (3 * (i % 16 / 4) + i % 4) (lit< tt)) low in
+      let lt : quarter_of i * (4 * m) + (4 * (i / 16) + i % 4) < 4 * (4 * m) = digits_lt (mod-lt (3 * (i % 16 / 4) + i % 4) (lit< tt)) low in
       rw (goes i) (omega arith)
 
   comes_back : (i : ℕ) → i < 16 * m → back (16 * m) (P (16 * m) i) ≡ i
-  unfolding quarter-of
+  unfolding quarter_of
   comes_back i h =
       let column : (i % 4 + 3 * ((3 * (i % 16 / 4) + i % 4) % 4)) % 4 ≡ i % 16 / 4 = omega arith in
-      ap (back (16 * m)) (goes i) ∙ back_at (quarter-of i) (i / 16) (i % 4) (omega arith) (omega arith)
+      ap (back (16 * m)) (goes i) ∙ back_at (quarter_of i) (i / 16) (i % 4) (omega arith) (omega arith)
       ∙ ap (λ (h : ℕ). 16 * (i / 16) + 4 * h + i % 4) column
       ∙ sym (place i)
 
@@ -97,15 +97,15 @@ module _ (m : ℕ) where
     came-lt : back (16 * m) q < 16 * m
     came-lt = rw came (omega (arith, r-lt))
 
-    goes-again : P (16 * m) (back (16 * m) q) ≡ q
-    goes-again =
+    goes_again : P (16 * m) (back (16 * m) q) ≡ q
+    goes_again =
         let again : (3 * ((r % 4 + 3 * k) % 4) + r % 4) % 4 ≡ k = omega (arith, k_lt) in
-        ap (P (16 * m)) came ∙ P-at (r / 4) ((r % 4 + 3 * k) % 4) (r % 4) (omega arith) (omega arith)
+        ap (P (16 * m)) came ∙ P_at (r / 4) ((r % 4 + 3 * k) % 4) (r % 4) (omega arith) (omega arith)
         ∙ ap (λ (x : ℕ). x * (4 * m) + (4 * (r / 4) + r % 4)) again
         ∙ sym parts
 
   pub width : Width (16 * m)
-  width = record { whole = omega arith; P_lt = goes-lt; back_lt = came-lt; back_P = comes_back; P_back = goes-again }
+  width = record { whole = omega arith; P_lt = goes_lt; back_lt = came-lt; back_P = comes_back; P_back = goes_again }
 
 pub width128 : Width 128
 width128 = width 8
@@ -182,22 +182,22 @@ module _ (n : ℕ) (ok : Width n) where
       (λ q l ne. ap (λ (t : Bool). t && bit s (back n q)) (ltb_next (back n q) k (λ e. ne (sym (ok.P_back q l) ∙ ap (P n) e)))))
 
   -- bit q of the permuted state is the bit that P sends there
-  pub perm_bits-is : (s : ℕ) → perm_bits n s ≡ of_bits n (λ q. bit s (back n q))
+  pub perm_bits_is : (s : ℕ) → perm_bits n s ≡ of_bits n (λ q. bit s (back n q))
   unfolding perm_bits
-  perm_bits-is s =
+  perm_bits_is s =
       moved-low n s (le_refl n)
       ∙ of_bits_cong n (λ q. ltb (back n q) n && bit s (back n q)) (λ q. bit s (back n q))
       (λ q h. ap (λ (t : Bool). t && bit s (back n q)) (lt-ltb (back n q) n (ok.back_lt q h)))
 
   pub perm_bits-lt : (s : ℕ) → perm_bits n s < 2 ^ n
-  perm_bits-lt s = rw perm_bits-is (of_bits_lt n (λ q. bit s (back n q)))
+  perm_bits-lt s = rw perm_bits_is (of_bits_lt n (λ q. bit s (back n q)))
 
   pub un_perm_bits-lt : (s : ℕ) → un_perm_bits n s < 2 ^ n
   unfolding un_perm_bits
   un_perm_bits-lt s = of_bits_lt n (λ i. bit s (P n i))
 
   pub bit-perm_bits : (s q : ℕ) → q < n → bit (perm_bits n s) q ≡ bit s (back n q)
-  bit-perm_bits s q h = ap (λ (x : ℕ). bit x q) (perm_bits-is s) ∙ bit_of_bits n (λ i. bit s (back n i)) q h
+  bit-perm_bits s q h = ap (λ (x : ℕ). bit x q) (perm_bits_is s) ∙ bit_of_bits n (λ i. bit s (back n i)) q h
 
   pub un_perm_perm : (s : ℕ) → s < 2 ^ n → un_perm_bits n (perm_bits n s) ≡ s
   unfolding un_perm_bits
@@ -208,7 +208,7 @@ module _ (n : ℕ) (ok : Width n) where
   pub perm_un_perm : (s : ℕ) → s < 2 ^ n → perm_bits n (un_perm_bits n s) ≡ s
   unfolding un_perm_bits
   perm_un_perm s h =
-      perm_bits-is (of_bits n (λ i. bit s (P n i)))
+      perm_bits_is (of_bits n (λ i. bit s (P n i)))
       ∙ of_bits_cong n (λ q. bit (of_bits n (λ i. bit s (P n i))) (back n q)) (bit s)
       (λ q l. bit_of_bits n (λ i. bit s (P n i)) (back n q) (ok.back_lt q l) ∙ ap (bit s) (ok.P_back q l))
       ∙ of_bits_bit n s h

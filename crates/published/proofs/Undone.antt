@@ -27,12 +27,12 @@ unfolding find
 find-lt test zero h = h
 find-lt test (suc k) h = cond_either (λ (x : ℕ). x < suc k) (test k) k (find test k) (λ e. omega arith) (λ e. find-le test k)
 
-find-is : (test : ℕ → Bool) (k x : ℕ) → x < k → test x ≡ true → ((y : ℕ) → test y ≡ true → y < k → y ≡ x) → find test k ≡ x
+find_is : (test : ℕ → Bool) (k x : ℕ) → x < k → test x ≡ true → ((y : ℕ) → test y ≡ true → y < k → y ≡ x) → find test k ≡ x
 unfolding find
-find-is test zero x h t only = absurd (not-suc-le-zero h)
-find-is test (suc k) x h t only =
+find_is test zero x h t only = absurd (not-suc-le-zero h)
+find_is test (suc k) x h t only =
     cond_either (λ (y : ℕ). y ≡ x) (test k) k (find test k) (λ e. only k e (omega arith))
-    (λ e. find-is test k x (smaller e) t (λ y u l. only y u (omega arith)))
+    (λ e. find_is test k x (smaller e) t (λ y u l. only y u (omega arith)))
   where
     smaller : test k ≡ false → x < k
     smaller e =
@@ -82,19 +82,19 @@ module _ (n j : ℕ) (ok : Width n) where
     unfolding unround
     unround-lt = find-lt (λ x. eqb (round n j p c x) s) (2 ^ n) (pow_pos n)
 
-    pub unround-is : s < 2 ^ n → unround n j p c s ≡ steps_back n j p c s
+    pub unround_is : s < 2 ^ n → unround n j p c s ≡ steps_back n j p c s
     unfolding unround
-    unround-is h =
-        find-is (λ x. eqb (round n j p c x) s) (2 ^ n) (steps_back n j p c s) (steps_back-lt p c s)
+    unround_is h =
+        find_is (λ x. eqb (round n j p c x) s) (2 ^ n) (steps_back n j p c s) (steps_back-lt p c s)
         (eq-eqb (round n j p c (steps_back n j p c s)) s (round-steps_back p c s h))
         (λ y e l. sym (steps_back-round p c y l) ∙ ap (steps_back n j p c) (eqb-true (round n j p c y) s e))
 
   module _ (p : Pair) (c s : ℕ) (h : s < 2 ^ n) where
     pub unround-round : unround n j p c (round n j p c s) ≡ s
-    unround-round = unround-is p c (round n j p c s) (round-lt p c s) ∙ steps_back-round p c s h
+    unround-round = unround_is p c (round n j p c s) (round-lt p c s) ∙ steps_back-round p c s h
 
     pub round-unround : round n j p c (unround n j p c s) ≡ s
-    round-unround = ap (round n j p c) (unround-is p c s h) ∙ round-steps_back p c s h
+    round-unround = ap (round n j p c) (unround_is p c s h) ∙ round-steps_back p c s h
 
   -- ---- any number of rounds
 

@@ -22,8 +22,8 @@ unfolding word
 word-bit n x j i h = bit_of_bits (n / 4) (λ k. bit x (4 * k + j)) i h
 
 -- the words of a block are the block
-pub block-of-words : (n : ℕ) → 4 * (n / 4) ≡ n → (w : ℕ → ℕ) (x : ℕ) → x < 2 ^ n → ((j : ℕ) → j < 4 → w j ≡ word n x j) → from_words n w ≡ x
-block-of-words n whole w x h is =
+pub block_of_words : (n : ℕ) → 4 * (n / 4) ≡ n → (w : ℕ → ℕ) (x : ℕ) → x < 2 ^ n → ((j : ℕ) → j < 4 → w j ≡ word n x j) → from_words n w ≡ x
+block_of_words n whole w x h is =
     bit_ext n (from_words n w) x (of_bits_lt n _) h
     (λ q l.
     bit_of_bits n (λ k. bit (w (k % 4)) (k / 4)) q l ∙ ap (λ (v : ℕ). bit v (q / 4)) (is (q % 4) (omega arith))
@@ -47,7 +47,7 @@ module _ (w : ℕ → ℕ) where
   bit-from_words q h = bit_of_bits 128 (λ k. bit (w (k % 4)) (k / 4)) q h
 
   pub from_words-word : (x : ℕ) → x < 2 ^ 128 → ((j : ℕ) → j < 4 → w j ≡ word 128 x j) → from_words 128 w ≡ x
-  from_words-word = block-of-words 128 refl w
+  from_words-word = block_of_words 128 refl w
 
   -- and the block of four words has those words
   pub word-from_words : ((j : ℕ) → j < 4 → w j < 2 ^ 32) → (j : ℕ) → j < 4 → word 128 (from_words 128 w) j ≡ w j

@@ -19,8 +19,8 @@ use Rattle.quintuple.specs.declared.Part.{Part}
 use Rattle.quintuple.specs.Boxes.{substituted, boxed}
 use Rattle.quintuple.specs.Quintuple.{quintupled, unquintupled}
 use Rattle.quintuple.specs.Inner.{exchanged_of, subround, unsubround, tabled, part_of, five_of, unfive_of}
-use Rattle.quintuple.proofs.Fixslice.{block_in_five, block_in-none}
-use Rattle.quintuple.proofs.Five.{carried, tabled-lt, go_on, go-back, done, undone}
+use Rattle.quintuple.proofs.Fixslice.{block_in_five, block_in_none}
+use Rattle.quintuple.proofs.Five.{carried, tabled-lt, go_on, go_back, done, undone}
 
 -- ---- what a round leaves are words
 
@@ -81,7 +81,7 @@ module _ (s : State) (ws : List ℕ) (i : ℕ) (few : 10 ≤ length ws) (near : 
       let y3 : State = exchanged_of x3 in
       let x4 : State = subround 4 y3 (w 8) (w 9) (tabled (i + 4)) in
       let y4 : State = exchanged_of x4 in
-      let b0 = go_on 0 s x0 y0 (w 0) (w 1) (tabled i) (suc i) _ (lit< tt) (carried 0 i i _ (lit< tt) (omega arith) refl refl) (block_in-none s) refl refl in
+      let b0 = go_on 0 s x0 y0 (w 0) (w 1) (tabled i) (suc i) _ (lit< tt) (carried 0 i i _ (lit< tt) (omega arith) refl refl) (block_in_none s) refl refl in
       let b1 = go_on 1 y0 x1 y1 (w 2) (w 3) (tabled (i + 1)) (suc (suc i)) _ (lit< tt) (carried 1 (i + 1) (suc i) _ (lit< tt) (omega arith) (add-one i) refl) b0 refl refl in
       let b2 = go_on 2 y1 x2 y2 (w 4) (w 5) (tabled (i + 2)) (suc (suc (suc i))) _ (lit< tt) (carried 2 (i + 2) (suc (suc i)) _ (lit< tt) (omega arith) (add-two i) refl) b1 refl refl in
       let b3 = go_on 3 y2 x3 y3 (w 6) (w 7) (tabled (i + 3)) (suc (suc (suc (suc i)))) _ (lit< tt) (carried 3 (i + 3) (suc (suc (suc i))) _ (lit< tt) (omega arith) (add-three i) refl) b2 refl refl in
@@ -99,18 +99,18 @@ module _ (s : State) (ws : List ℕ) (i : ℕ) (few : 10 ≤ length ws) (near : 
       let x1 : State = unsubround 1 (exchanged_of x2) (w 2) (w 3) (tabled (i + 1)) in
       let x0 : State = unsubround 0 (exchanged_of x1) (w 0) (w 1) (tabled i) in
       let b4 =
-      go-back 4 z (exchanged_of z) x4 (w 8) (w 9) (tabled (i + 4)) (suc (suc (suc (suc (suc i))))) _ (lit< tt) (words_of (block_of s)) (word 8) (word 9) (tabled-lt (i + 4))
+      go_back 4 z (exchanged_of z) x4 (w 8) (w 9) (tabled (i + 4)) (suc (suc (suc (suc (suc i))))) _ (lit< tt) (words_of (block_of s)) (word 8) (word 9) (tabled-lt (i + 4))
       (carried 4 (i + 4) (suc (suc (suc (suc i)))) _ (lit< tt) (omega arith) (add-four i) refl) (block_in_five z ∙ block_of_state_of (block_of s) (block_of_lt s)) refl refl in
       let b3 =
-      go-back 3 x4 (exchanged_of x4) x3 (w 6) (w 7) (tabled (i + 3)) (suc (suc (suc (suc i)))) _ (lit< tt) (unround-words 4 (exchanged_of z) (w 8) (w 9) (tabled (i + 4))) (word 6) (word 7) (tabled-lt (i + 3))
+      go_back 3 x4 (exchanged_of x4) x3 (w 6) (w 7) (tabled (i + 3)) (suc (suc (suc (suc i)))) _ (lit< tt) (unround-words 4 (exchanged_of z) (w 8) (w 9) (tabled (i + 4))) (word 6) (word 7) (tabled-lt (i + 3))
       (carried 3 (i + 3) (suc (suc (suc i))) _ (lit< tt) (omega arith) (add-three i) refl) b4 refl refl in
       let b2 =
-      go-back 2 x3 (exchanged_of x3) x2 (w 4) (w 5) (tabled (i + 2)) (suc (suc (suc i))) _ (lit< tt) (unround-words 3 (exchanged_of x4) (w 6) (w 7) (tabled (i + 3))) (word 4) (word 5) (tabled-lt (i + 2))
+      go_back 2 x3 (exchanged_of x3) x2 (w 4) (w 5) (tabled (i + 2)) (suc (suc (suc i))) _ (lit< tt) (unround-words 3 (exchanged_of x4) (w 6) (w 7) (tabled (i + 3))) (word 4) (word 5) (tabled-lt (i + 2))
       (carried 2 (i + 2) (suc (suc i)) _ (lit< tt) (omega arith) (add-two i) refl) b3 refl refl in
       let b1 =
-      go-back 1 x2 (exchanged_of x2) x1 (w 2) (w 3) (tabled (i + 1)) (suc (suc i)) _ (lit< tt) (unround-words 2 (exchanged_of x3) (w 4) (w 5) (tabled (i + 2))) (word 2) (word 3) (tabled-lt (i + 1))
+      go_back 1 x2 (exchanged_of x2) x1 (w 2) (w 3) (tabled (i + 1)) (suc (suc i)) _ (lit< tt) (unround-words 2 (exchanged_of x3) (w 4) (w 5) (tabled (i + 2))) (word 2) (word 3) (tabled-lt (i + 1))
       (carried 1 (i + 1) (suc i) _ (lit< tt) (omega arith) (add-one i) refl) b2 refl refl in
       let b0 =
-      go-back 0 x1 (exchanged_of x1) x0 (w 0) (w 1) (tabled i) (suc i) _ (lit< tt) (unround-words 1 (exchanged_of x2) (w 2) (w 3) (tabled (i + 1))) (word 0) (word 1) (tabled-lt i)
+      go_back 0 x1 (exchanged_of x1) x0 (w 0) (w 1) (tabled i) (suc i) _ (lit< tt) (unround-words 1 (exchanged_of x2) (w 2) (w 3) (tabled (i + 1))) (word 0) (word 1) (tabled-lt i)
       (carried 0 i i _ (lit< tt) (omega arith) refl refl) b1 refl refl in
-      undone s ws i few near start x0 (unround-words 0 (exchanged_of x1) (w 0) (w 1) (tabled i)) (sym (block_in-none x0) ∙ b0)
+      undone s ws i few near start x0 (unround-words 0 (exchanged_of x1) (w 0) (w 1) (tabled i)) (sym (block_in_none x0) ∙ b0)

@@ -8,7 +8,7 @@ use lib.ListN.{get_or}
 use Rattle.bits.specs.Digit.{bit, of_bits, number, ◌⊕◌}
 use Rattle.bits.proofs.Bits.{bit_ext, bit_of_bits, bit_out, of_bits_lt, ⊕_equal}
 use Rattle.bits.proofs.Reflect.{W, value, value-lt, sized}
-use Rattle.bits.proofs.Pointwise.{flat, on-bits, pointwise, all-sixteen, at-sixteen}
+use Rattle.bits.proofs.Pointwise.{flat, on_bits, pointwise, all_sixteen, at_sixteen}
 use Rattle.primitives.specs.declared.State.{State}
 use Rattle.primitives.specs.Packed.{Words}
 use Rattle.quintuple.specs.Boxes.{column, substituted}
@@ -29,18 +29,18 @@ bits_at s i (suc (suc (suc (suc k)))) = bit_out 0 0 i (lit< tt) zero-le
 
 -- the expression gives bit j of the table f at each of the sixteen nibbles
 abbrev pub is_table : (ℕ → ℕ) → W → ℕ → Bool
-is_table f e j = all-sixteen (λ a b c d. not (on-bits e (four-bits a b c d) ⊕ bit (f (of_bits 4 (four-bits a b c d))) j))
+is_table f e j = all_sixteen (λ a b c d. not (on_bits e (four-bits a b c d) ⊕ bit (f (of_bits 4 (four-bits a b c d))) j))
 
 module _ (f : ℕ → ℕ) (e : W) (size : T (sized (32 ∷ 32 ∷ 32 ∷ 32 ∷ []) 32 e)) (no_shift : T (flat 32 e)) where
-  pub through-table : (j : ℕ) → T (is_table f e j) → (s : State) → Words s → value 32 (words s) e ≡ substituted f s j
+  pub through_table : (j : ℕ) → T (is_table f e j) → (s : State) → Words s → value 32 (words s) e ≡ substituted f s j
   unfolding column substituted of_bits number
-  through-table j t s h =
+  through_table j t s h =
       bit_ext 32 (value 32 (words s) e) (substituted f s j)
       (value-lt (32 ∷ 32 ∷ 32 ∷ 32 ∷ []) (words s) 32 (h.0, (h.1, (h.2, (h.3, tt)))) e size)
       (of_bits_lt 32 (λ i. bit (f (column s i)) j))
       (λ i l.
       pointwise 32 (words s) i l e no_shift
-      ∙ ap (on-bits e) (fun_ext (bits_at s i))
+      ∙ ap (on_bits e) (fun_ext (bits_at s i))
       ∙ same_bit (bit s.s0 i) (bit s.s1 i) (bit s.s2 i) (bit s.s3 i)
       ∙ sym (bit_of_bits 32 (λ k. bit (f (column s k)) j) i l))
     where
@@ -48,8 +48,8 @@ module _ (f : ℕ → ℕ) (e : W) (size : T (sized (32 ∷ 32 ∷ 32 ∷ 32 ∷
       is_false false t = refl
       is_false true t = absurd t
 
-      same_bit : (a b c d : Bool) → on-bits e (four-bits a b c d) ≡ bit (f (of_bits 4 (four-bits a b c d))) j
+      same_bit : (a b c d : Bool) → on_bits e (four-bits a b c d) ≡ bit (f (of_bits 4 (four-bits a b c d))) j
       same_bit a b c d =
-          ⊕_equal (on-bits e (four-bits a b c d)) (bit (f (of_bits 4 (four-bits a b c d))) j)
-          (is_false (on-bits e (four-bits a b c d) ⊕ bit (f (of_bits 4 (four-bits a b c d))) j)
-          (at-sixteen (λ a b c d. not (on-bits e (four-bits a b c d) ⊕ bit (f (of_bits 4 (four-bits a b c d))) j)) t a b c d))
+          ⊕_equal (on_bits e (four-bits a b c d)) (bit (f (of_bits 4 (four-bits a b c d))) j)
+          (is_false (on_bits e (four-bits a b c d) ⊕ bit (f (of_bits 4 (four-bits a b c d))) j)
+          (at_sixteen (λ a b c d. not (on_bits e (four-bits a b c d) ⊕ bit (f (of_bits 4 (four-bits a b c d))) j)) t a b c d))

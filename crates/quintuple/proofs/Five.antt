@@ -20,10 +20,10 @@ use Rattle.primitives.specs.Packed.{word_of, block_of, state_of, Words}
 use Rattle.primitives.proofs.Moves.{bit-permuted}
 use Rattle.primitives.proofs.Blocks.{state_of_block_of}
 use Rattle.round_words.specs.Arranged.{nibble_at, stands, arranged, constant_word, pairs_from}
-use Rattle.round_words.proofs.Arrangements.{arranged-lt, stands-arranged}
+use Rattle.round_words.proofs.Arrangements.{arranged-lt, stands_arranged}
 use Rattle.quintuple.specs.Quintuple.{good, quintupled, unquintupled}
 use Rattle.quintuple.specs.Inner.{exchanged_of, subround, unsubround, tabled, block_in}
-use Rattle.quintuple.proofs.Fixslice.{constant-lt, subround-is-round, unsubround-is-unround}
+use Rattle.quintuple.proofs.Fixslice.{constant-lt, subround_is_round, unsubround_is_unround}
 
 and-false : (b : Bool) → (b && false) ≡ false
 and-false false = refl
@@ -48,9 +48,9 @@ pub first_two : (ws : List ℕ) → 2 ≤ length ws → take 2 ws ≡ get_or ws 
 unfolding listed
 first_two ws h = take-listed 2 ws h
 
-pub first-ten : (ws : List ℕ) → 10 ≤ length ws → take 10 ws ≡ ten ws
+pub first_ten : (ws : List ℕ) → 10 ≤ length ws → take 10 ws ≡ ten ws
 unfolding listed
-first-ten ws h = take-listed 10 ws h
+first_ten ws h = take-listed 10 ws h
 
 pub tabled-lt : (r : ℕ) → tabled r < 2 ^ 32
 unfolding constant_word
@@ -62,28 +62,28 @@ unfolding constant_word
 carried k r r' c hk at same e =
     ap (stands (suc k))
     (e ∙ ap₂ (λ (j m : ℕ). arranged (suc j) (2 ^ 31 + constant (suc m))) at same)
-    ∙ stands-arranged (suc k) (2 ^ 31 + constant (suc r')) (suc-le-suc hk) (omega (arith, constant-lt (suc r')))
+    ∙ stands_arranged (suc k) (2 ^ 31 + constant (suc r')) (suc-le-suc hk) (omega (arith, constant-lt (suc r')))
 
 -- one more round
 pub go_on : (k : ℕ) (x a y : State) (v u c r b : ℕ) → k < 5 → stands (suc k) c ≡ 2 ^ 31 + constant r → block_in k x ≡ b → a ≡ subround k x v u c → y ≡ exchanged_of a
     → block_in (suc k) y ≡ round 128 1 (record { u = stands (suc k) u; v = stands (suc k) v }) (constant r) b
 go_on k x a y v u c r b hk carries before made swapped =
-    ap (block_in (suc k)) (swapped ∙ ap exchanged_of made) ∙ subround-is-round k hk x v u c (constant r) (constant-lt r) carries
+    ap (block_in (suc k)) (swapped ∙ ap exchanged_of made) ∙ subround_is_round k hk x v u c (constant r) (constant-lt r) carries
     ∙ ap (round 128 1 _ (constant r)) before
 
 -- one round less, and what it leaves are words again
-pub go-back : (k : ℕ) (x y a : State) (v u c r b : ℕ) → k < 5 → Words x → v < 2 ^ 32 → u < 2 ^ 32 → c < 2 ^ 32 → stands (suc k) c ≡ 2 ^ 31 + constant r
+pub go_back : (k : ℕ) (x y a : State) (v u c r b : ℕ) → k < 5 → Words x → v < 2 ^ 32 → u < 2 ^ 32 → c < 2 ^ 32 → stands (suc k) c ≡ 2 ^ 31 + constant r
     → block_in (suc k) x ≡ b → y ≡ exchanged_of x → a ≡ unsubround k y v u c
     → block_in k a ≡ unround 128 1 (record { u = stands (suc k) u; v = stands (suc k) v }) (constant r) b
-go-back k x y a v u c r b hk hx hv hu hc carries before swapped made =
+go_back k x y a v u c r b hk hx hv hu hc carries before swapped made =
     ap (block_in k) (made ∙ ap (λ (z : State). unsubround k z v u c) swapped)
-    ∙ unsubround-is-unround k hk (exchanged_of x) v u c (hx.3, hx.1, hx.2, hx.0) hv hu hc (constant r) (constant-lt r) carries
+    ∙ unsubround_is_unround k hk (exchanged_of x) v u c (hx.3, hx.1, hx.2, hx.0) hv hu hc (constant r) (constant-lt r) carries
     ∙ ap (unround 128 1 _ (constant r)) before
 
 -- ---- the tests of the two calls, and what the calls give by them
 
-pub all-good : (ws : List ℕ) (i : ℕ) → 10 ≤ length ws → i ≤ 35 → i % 5 ≡ 0 → good ws i ≡ true
-all-good ws i hw hi h5 = ap₂ ◌&&◌ (le-leb 10 (length ws) hw) (ap₂ ◌&&◌ (le-leb i 35 hi) (eq-eqb (i % 5) 0 h5))
+pub all_good : (ws : List ℕ) (i : ℕ) → 10 ≤ length ws → i ≤ 35 → i % 5 ≡ 0 → good ws i ≡ true
+all_good ws i hw hi h5 = ap₂ ◌&&◌ (le-leb 10 (length ws) hw) (ap₂ ◌&&◌ (le-leb i 35 hi) (eq-eqb (i % 5) 0 h5))
 
 pub too_few : (ws : List ℕ) (i : ℕ) → length ws < 10 → good ws i ≡ false
 too_few ws i h = ap (λ (b : Bool). b && (leb i 35 && eqb (i % 5) 0)) (lt-leb 10 (length ws) h)
@@ -95,8 +95,8 @@ pub enough : (ws : List ℕ) (i : ℕ) → 10 ≤ length ws → i ≤ 35 → goo
 enough ws i hw hi = ap₂ (λ (a b : Bool). a && (b && eqb (i % 5) 0)) (le-leb 10 (length ws) hw) (le-leb i 35 hi)
 
 -- what the tests told
-pub is-good : (ws : List ℕ) (i : ℕ) → good ws i ≡ true → (10 ≤ length ws) × (i ≤ 35) × (i % 5 ≡ 0)
-is-good ws i e =
+pub is_good_lem : (ws : List ℕ) (i : ℕ) → good ws i ≡ true → (10 ≤ length ws) × (i ≤ 35) × (i % 5 ≡ 0)
+is_good_lem ws i e =
     let first = both (leb 10 (length ws)) (leb i 35 && eqb (i % 5) 0) e in
     let rest = both (leb i 35) (eqb (i % 5) 0) first.1 in
     (leb-true 10 (length ws) first.0, leb-true i 35 rest.0, eqb-true (i % 5) 0 rest.1)
@@ -115,8 +115,8 @@ module _ (s : State) (ws : List ℕ) (i : ℕ) where
     unfolding quintupled
     done e =
         sym
-        (cond-true _ _ _ (all-good ws i few near start)
-        ∙ ap (λ (l : List ℕ). state_of (rounds128 (pairs_from 0 l) i (block_of s))) (first-ten ws few)
+        (cond-true _ _ _ (all_good ws i few near start)
+        ∙ ap (λ (l : List ℕ). state_of (rounds128 (pairs_from 0 l) i (block_of s))) (first_ten ws few)
         ∙ ap state_of (sym e)
         ∙ state_of_block_of r hr)
 
@@ -124,8 +124,8 @@ module _ (s : State) (ws : List ℕ) (i : ℕ) where
     unfolding unquintupled
     undone e =
         sym
-        (cond-true _ _ _ (all-good ws i few near start)
-        ∙ ap (λ (l : List ℕ). state_of (unrounds128 (pairs_from 0 l) i (block_of s))) (first-ten ws few)
+        (cond-true _ _ _ (all_good ws i few near start)
+        ∙ ap (λ (l : List ℕ). state_of (unrounds128 (pairs_from 0 l) i (block_of s))) (first_ten ws few)
         ∙ ap state_of (sym e)
         ∙ state_of_block_of r hr)
 

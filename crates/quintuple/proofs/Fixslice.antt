@@ -8,7 +8,7 @@ use native.Mathlib.Omega.{arith}
 use lib.Bits.{bit_xor, xor_lt}
 use lib.Dec.{eqb, eqb→eq, ltb, ltb→lt, lit<, lit≤}
 use Rattle.bits.specs.Digit.{bit, ◌⊕◌}
-use Rattle.bits.proofs.Bits.{bit_out, bit-xor, of_bits_cong, one-lt, ⊕-false}
+use Rattle.bits.proofs.Bits.{bit_out, bit-xor, of_bits_cong, one_lt, ⊕-false}
 use Rattle.bits.proofs.Computed.{below, at}
 use Rattle.published.specs.Rounds.{P, Pair, entry, step, constant, round, unround}
 use Rattle.published.specs.Inner.{back}
@@ -18,13 +18,13 @@ use Rattle.published.proofs.Words.{four}
 use Rattle.primitives.specs.declared.State.{State}
 use Rattle.primitives.specs.Words.{permuted}
 use Rattle.primitives.specs.Packed.{word_of, block_of, Words}
-use Rattle.primitives.proofs.Moves.{bit-permuted, permuted-lt, permuted-id, permuted-then}
-use Rattle.primitives.proofs.Blocks.{same-words}
+use Rattle.primitives.proofs.Moves.{bit-permuted, permuted-lt, permuted-id, permuted_then}
+use Rattle.primitives.proofs.Blocks.{same_words}
 use Rattle.round_words.specs.Arranged.{N, nibble_at, stands}
 use Rattle.round_words.proofs.Arrangements.{nibble_at-lt, there_and_back}
 use Rattle.quintuple.specs.Boxes.{substituted}
 use Rattle.quintuple.specs.Inner.{block_in, exchanged_of, move, unmove, subround, unmoved, unsubround}
-use Rattle.quintuple.proofs.Sliced.{block_at_lt, key_word, key-bits, sliced_round, back-again, xor-twice}
+use Rattle.quintuple.proofs.Sliced.{block_at_lt, key_word, key-bits, sliced_round, back_again, xor-twice}
 
 -- ---- the block that four words stand for, k rounds in
 
@@ -37,9 +37,9 @@ pub block_in_five : (s : State) → block_in 5 s ≡ block_of s
 unfolding block_in block_of nibble_at
 block_in_five s = refl
 
-pub block_in-none : (s : State) → block_in 0 s ≡ block_of s
+pub block_in_none : (s : State) → block_in 0 s ≡ block_of s
 unfolding block_in block_of nibble_at
-block_in-none s =
+block_in_none s =
     of_bits_cong 128 (λ q. bit (word_of s (q % 4)) (nibble_at 5 (q / 4))) (λ q. bit (word_of s (q % 4)) (q / 4))
     (λ q h. ap (bit (word_of s (q % 4))) (there_and_back 0 (q / 4) (lit< tt) (omega arith)))
 
@@ -47,7 +47,7 @@ block_in-none s =
 
 pub step-lt : (c : ℕ) → step c < 64
 unfolding step
-step-lt c = omega (arith, one-lt (bit c 5 ⊕ bit c 4 ⊕ true))
+step-lt c = omega (arith, one_lt (bit c 5 ⊕ bit c 4 ⊕ true))
 
 pub constant-lt : (r : ℕ) → constant r < 64
 unfolding constant
@@ -57,9 +57,9 @@ constant-lt (suc r) = step-lt (constant r)
 -- ---- a round on words is the published round
 
 -- the word of bit 3 never moves
-bit-3-stays : (k n : ℕ) → k < 5 → n < 32 → nibble_at (5 - suc k) n ≡ nibble_at (5 - k) (back 128 (4 * n + 3) / 4)
+bit_3_stays : (k n : ℕ) → k < 5 → n < 32 → nibble_at (5 - suc k) n ≡ nibble_at (5 - k) (back 128 (4 * n + 3) / 4)
 unfolding nibble_at N P
-bit-3-stays k n hk hn =
+bit_3_stays k n hk hn =
     eqb→eq (nibble_at (5 - suc k) n) (nibble_at (5 - k) (back 128 (4 * n + 3) / 4))
     (at 32 (λ n. eqb (nibble_at (5 - suc k) n) (nibble_at (5 - k) (back 128 (4 * n + 3) / 4)))
     (at 5 (λ k. below 32 (λ n. eqb (nibble_at (5 - suc k) n) (nibble_at (5 - k) (back 128 (4 * n + 3) / 4)))) tt k hk) n hn)
@@ -79,16 +79,16 @@ module _ (k : ℕ) (hk : k < 5) (s : State) (v u c : ℕ) (r : ℕ) (hr : r < 64
   place-lt n h = nibble_at-lt (5 - suc k) n (lt_of_le_of_lt (sub-le 5 (suc k)) (lit< tt)) h
 
   -- moved to that place is what k rounds in stood at the source's
-  moved-from : (n j : ℕ) → n < 32 → move k j (place n) ≡ nibble_at (5 - k) (back 128 (4 * n + j) / 4)
+  moved_from : (n j : ℕ) → n < 32 → move k j (place n) ≡ nibble_at (5 - k) (back 128 (4 * n + j) / 4)
   unfolding move
-  moved-from n j h = ap (λ (m : ℕ). nibble_at (5 - k) (back 128 (4 * m + j) / 4)) (there_and_back (suc k) n (suc-le-suc hk) h)
+  moved_from n j h = ap (λ (m : ℕ). nibble_at (5 - k) (back 128 (4 * m + j) / 4)) (there_and_back (suc k) n (suc-le-suc hk) h)
 
   -- a word moved, at that place, and the word that never moves
   moved-bit : (n j : ℕ) → n < 32 → bit (permuted (move k j) (substituted entry s j)) (place n) ≡ bit (substituted entry s j) (nibble_at (5 - k) (back 128 (4 * n + j) / 4))
-  moved-bit n j hn = bit-permuted (move k j) (substituted entry s j) (place n) (place-lt n hn) ∙ ap (bit (substituted entry s j)) (moved-from n j hn)
+  moved-bit n j hn = bit-permuted (move k j) (substituted entry s j) (place n) (place-lt n hn) ∙ ap (bit (substituted entry s j)) (moved_from n j hn)
 
-  kept-bit : (n : ℕ) → n < 32 → bit (substituted entry s 3) (place n) ≡ bit (substituted entry s 3) (nibble_at (5 - k) (back 128 (4 * n + 3) / 4))
-  kept-bit n hn = ap (bit (substituted entry s 3)) (bit-3-stays k n hk hn)
+  kept_bit : (n : ℕ) → n < 32 → bit (substituted entry s 3) (place n) ≡ bit (substituted entry s 3) (nibble_at (5 - k) (back 128 (4 * n + 3) / 4))
+  kept_bit n hn = ap (bit (substituted entry s 3)) (bit_3_stays k n hk hn)
 
   -- a key word, at that place
   key-bit : (w n : ℕ) → n < 32 → bit w (place n) ≡ bit (stands (suc k) w) n
@@ -105,12 +105,12 @@ module _ (k : ℕ) (hk : k < 5) (s : State) (v u c : ℕ) (r : ℕ) (hr : r < 64
       (moved-bit n 0 hn ∙ sym (⊕-false _) ∙ ap (λ (x : Bool). bit (substituted entry s 0) (nibble_at (5 - k) (back 128 (4 * n + 0) / 4)) ⊕ x) (sym (bit_out 0 0 n (lit< tt) zero-le)))
       (bit-xor (permuted (move k 1) (substituted entry s 1)) v (place n) ∙ ap₂ ◌⊕◌ (moved-bit n 1 hn) (key-bit v n hn))
       (bit-xor (permuted (move k 2) (substituted entry s 2)) u (place n) ∙ ap₂ ◌⊕◌ (moved-bit n 2 hn) (key-bit u n hn))
-      (bit-xor (substituted entry s 3) c (place n) ∙ ap₂ ◌⊕◌ (kept-bit n hn) (key-bit c n hn ∙ ap (λ (x : ℕ). bit x n) carries))
+      (bit-xor (substituted entry s 3) c (place n) ∙ ap₂ ◌⊕◌ (kept_bit n hn) (key-bit c n hn ∙ ap (λ (x : ℕ). bit x n) carries))
       j hj
 
-  pub subround-is-round : block_in (suc k) after ≡ round 128 1 pair r (block_in k s)
+  pub subround_is_round : block_in (suc k) after ≡ round 128 1 pair r (block_in k s)
   unfolding block_in
-  subround-is-round =
+  subround_is_round =
       sliced_round 128 width128 (nibble_at (5 - k)) place (λ n h. nibble_at-lt (5 - k) n (lt_of_le_of_lt (sub-le 5 k) (lit< tt)) h) s after 1 pair r
       (λ n j hn hj.
       word-bit n j hn hj
@@ -131,9 +131,9 @@ move-lt k j i hk hj hi =
     ltb→lt (move k j i) 32
     (at 32 (λ i. ltb (move k j i) 32) (at 3 (λ j. below 32 (λ i. ltb (move k j i) 32)) (at 5 (λ k. below 3 (λ j. below 32 (λ i. ltb (move k j i) 32))) tt k hk) j hj) i hi)
 
-there-again : (k j x : ℕ) → k < 5 → j < 3 → x < 2 ^ 32 → permuted (move k j) (permuted (unmove k j) x) ≡ x
-there-again k j x hk hj h =
-    permuted-then (move k j) (unmove k j) x (λ i l. move-lt k j i hk hj l) ∙ permuted-id (λ i. unmove k j (move k j i)) x (λ i l. move-unmove k j i hk hj l) h
+there_again : (k j x : ℕ) → k < 5 → j < 3 → x < 2 ^ 32 → permuted (move k j) (permuted (unmove k j) x) ≡ x
+there_again k j x hk hj h =
+    permuted_then (move k j) (unmove k j) x (λ i l. move-lt k j i hk hj l) ∙ permuted-id (λ i. unmove k j (move k j i)) x (λ i l. move-unmove k j i hk hj l) h
 
 module _ (k : ℕ) (hk : k < 5) (s : State) (v u c : ℕ) (hs : Words s) (hv : v < 2 ^ 32) (hu : u < 2 ^ 32) (hc : c < 2 ^ 32) where
   unmoved-words : Words (unmoved k s v u c)
@@ -143,20 +143,20 @@ module _ (k : ℕ) (hk : k < 5) (s : State) (v u c : ℕ) (hs : Words s) (hv : v
   pub redone : subround k (unsubround k s v u c) v u c ≡ s
   unfolding subround unsubround
   redone =
-      same-words _ _
-      (ap (λ (x : ℕ). bit_xor x c) (back-again (unmoved k s v u c) unmoved-words 3 (lit< tt)) ∙ xor-twice s.s0 c hs.0 hc)
-      (ap (λ (x : ℕ). bit_xor (permuted (move k 1) x) v) (back-again (unmoved k s v u c) unmoved-words 1 (lit< tt))
-      ∙ ap (λ (x : ℕ). bit_xor x v) (there-again k 1 (bit_xor s.s1 v) hk (lit< tt) (xor_lt 32 s.s1 v hs.1 hv))
+      same_words _ _
+      (ap (λ (x : ℕ). bit_xor x c) (back_again (unmoved k s v u c) unmoved-words 3 (lit< tt)) ∙ xor-twice s.s0 c hs.0 hc)
+      (ap (λ (x : ℕ). bit_xor (permuted (move k 1) x) v) (back_again (unmoved k s v u c) unmoved-words 1 (lit< tt))
+      ∙ ap (λ (x : ℕ). bit_xor x v) (there_again k 1 (bit_xor s.s1 v) hk (lit< tt) (xor_lt 32 s.s1 v hs.1 hv))
       ∙ xor-twice s.s1 v hs.1 hv)
-      (ap (λ (x : ℕ). bit_xor (permuted (move k 2) x) u) (back-again (unmoved k s v u c) unmoved-words 2 (lit< tt))
-      ∙ ap (λ (x : ℕ). bit_xor x u) (there-again k 2 (bit_xor s.s2 u) hk (lit< tt) (xor_lt 32 s.s2 u hs.2 hu))
+      (ap (λ (x : ℕ). bit_xor (permuted (move k 2) x) u) (back_again (unmoved k s v u c) unmoved-words 2 (lit< tt))
+      ∙ ap (λ (x : ℕ). bit_xor x u) (there_again k 2 (bit_xor s.s2 u) hk (lit< tt) (xor_lt 32 s.s2 u hs.2 hu))
       ∙ xor-twice s.s2 u hs.2 hu)
-      (ap (permuted (move k 0)) (back-again (unmoved k s v u c) unmoved-words 0 (lit< tt)) ∙ there-again k 0 s.s3 hk (lit< tt) hs.3)
+      (ap (permuted (move k 0)) (back_again (unmoved k s v u c) unmoved-words 0 (lit< tt)) ∙ there_again k 0 s.s3 hk (lit< tt) hs.3)
 
-  pub unsubround-is-unround : (r : ℕ) → r < 64 → stands (suc k) c ≡ 2 ^ 31 + r
+  pub unsubround_is_unround : (r : ℕ) → r < 64 → stands (suc k) c ≡ 2 ^ 31 + r
       → block_in k (unsubround k s v u c) ≡ unround 128 1 (record { u = stands (suc k) u; v = stands (suc k) v }) r (block_in (suc k) (exchanged_of s))
-  unsubround-is-unround r hr carries =
+  unsubround_is_unround r hr carries =
       let z : State = unsubround k s v u c in
       let p : Pair = record { u = stands (suc k) u; v = stands (suc k) v } in
       sym (unround-round 128 1 width128 p r (block_in k z) (block_in-lt k z))
-      ∙ ap (unround 128 1 p r) (sym (subround-is-round k hk z v u c r hr carries) ∙ ap (λ (x : State). block_in (suc k) (exchanged_of x)) redone)
+      ∙ ap (unround 128 1 p r) (sym (subround_is_round k hk z v u c r hr carries) ∙ ap (λ (x : State). block_in (suc k) (exchanged_of x)) redone)

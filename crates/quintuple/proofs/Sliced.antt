@@ -21,7 +21,7 @@ use Rattle.published.proofs.OneBit.{source_lt, bit-round}
 use Rattle.published.proofs.Words.{four}
 use Rattle.primitives.specs.declared.State.{State}
 use Rattle.primitives.specs.Packed.{word_of, Words}
-use Rattle.primitives.proofs.Blocks.{words-at}
+use Rattle.primitives.proofs.Blocks.{words_at}
 use Rattle.quintuple.specs.Boxes.{column, substituted, boxed}
 use Rattle.quintuple.specs.Inner.{block_at, exchanged_of}
 
@@ -74,8 +74,8 @@ unfolding bit
 top_bit m c h =
     ap (λ (x : ℕ). eqb (digit 2 (x + c) m) 1) (sym (one-mul (2 ^ m))) ∙ ap (λ (d : ℕ). eqb d 1) (digit_top 2 (lit< tt) m 1 c (lit< tt) h)
 
-under-bit : (m c n : ℕ) → n < m → bit (2 ^ m + c) n ≡ bit c n
-under-bit m c n h = ap (λ (x : ℕ). bit (x + c) n) (sym (one-mul (2 ^ m))) ∙ bit_join_low m 1 c n h
+under_bit : (m c n : ℕ) → n < m → bit (2 ^ m + c) n ≡ bit c n
+under_bit m c n h = ap (λ (x : ℕ). bit (x + c) n) (sym (one-mul (2 ^ m))) ∙ bit_join_low m 1 c n h
 
 -- m is the highest nibble
 module _ (m : ℕ) (room : 6 ≤ m) (n : ℕ) (hn : n < m + 1) (p : Pair) (c : ℕ) (hc : c < 64) where
@@ -84,7 +84,7 @@ module _ (m : ℕ) (room : 6 ≤ m) (n : ℕ) (hn : n < m + 1) (p : Pair) (c : �
   constant-bit =
       elim (ℕ_discrete n m) [
         | yes e ↦ rw (e, eq-eqb (4 * m + 3) (4 * m + 3) refl, le-ltb m 6 room) (sym (top_bit m c (lt_of_lt_of_le hc (pow_mono room))))
-        | no ne ↦ ap (λ (x : Bool). x ⊕ (ltb n 6 && bit c n)) (ne_eqb (4 * n + 3) (4 * m + 3) (λ e. ne (omega arith))) ∙ few ∙ sym (under-bit m c n (omega arith))
+        | no ne ↦ ap (λ (x : Bool). x ⊕ (ltb n 6 && bit c n)) (ne_eqb (4 * n + 3) (4 * m + 3) (λ e. ne (omega arith))) ∙ few ∙ sym (under_bit m c n (omega arith))
       ]
     where
       few : (ltb n 6 && bit c n) ≡ bit c n
@@ -167,13 +167,13 @@ module _ (t : State) (h : Words t) where
       bit_ext 4 (column looked i) (unentry (column t i)) (column-lt looked i) (unentry-lt (column t i) (column-lt t i))
       (λ j hj. bit-column looked i j hj ∙ ap (λ (w : ℕ). bit w i) (looked-word j hj) ∙ bit-substituted unentry t j i hi)
 
-  pub back-again : (j : ℕ) → j < 4 → substituted entry looked j ≡ word_of t j
+  pub back_again : (j : ℕ) → j < 4 → substituted entry looked j ≡ word_of t j
   unfolding substituted
-  back-again j hj =
+  back_again j hj =
       of_bits_cong 32 (λ i. bit (entry (column looked i)) j) (bit (word_of t j))
       (λ i hi.
       ap (λ (x : ℕ). bit (entry x) j) (looked-column i hi) ∙ ap (λ (x : ℕ). bit x j) (entry-unentry (column t i) (column-lt t i)) ∙ bit-column t i j hj)
-      ∙ of_bits_bit 32 (word_of t j) (words-at t h j hj)
+      ∙ of_bits_bit 32 (word_of t j) (words_at t h j hj)
 
 pub xor-twice : (a b : ℕ) → a < 2 ^ 32 → b < 2 ^ 32 → bit_xor (bit_xor a b) b ≡ a
 xor-twice a b ha hb =

@@ -17,9 +17,9 @@ abbrev pub ruled : ℕ → ℕ → List ℕ
 ruled zero r = []
 ruled (suc n) r = constant_word (r % 5) r ∷ ruled n (suc r)
 
-pub at-round : (r : ℕ) → r < 40 → get_or (ruled 40 0) r 0 ≡ constant_word (r % 5) r
+pub at_round : (r : ℕ) → r < 40 → get_or (ruled 40 0) r 0 ≡ constant_word (r % 5) r
 unfolding digit number bit of_bits P step constant permuted N nibble_at arranged constant_word
-at-round r h = agree 40 (λ k. get_or (ruled 40 0) k 0) (λ k. constant_word (k % 5) k) tt r h
+at_round r h = agree 40 (λ k. get_or (ruled 40 0) k 0) (λ k. constant_word (k % 5) k) tt r h
 
 -- the five entries from round n on
 pub five_from : (i n : ℕ) → i ≡ n → n + 4 < 40
@@ -33,10 +33,10 @@ pub five_from : (i n : ℕ) → i ≡ n → n + 4 < 40
 five_from i n e h =
     (λ j.
     record {
-      c0 = at-round n (omega (arith, h)) j;
-      c1 = at-round (n + 1) (omega (arith, h)) j;
-      c2 = at-round (n + 2) (omega (arith, h)) j;
-      c3 = at-round (n + 3) (omega (arith, h)) j;
-      c4 = at-round (n + 4) h j;
+      c0 = at_round n (omega (arith, h)) j;
+      c1 = at_round (n + 1) (omega (arith, h)) j;
+      c2 = at_round (n + 2) (omega (arith, h)) j;
+      c3 = at_round (n + 3) (omega (arith, h)) j;
+      c4 = at_round (n + 4) h j;
     })
     ∙ ap constants_of (sym e)

@@ -6,8 +6,8 @@ use Prim.Native.Nat.{ℕ, ◌^◌, ◌<◌}
 use lib.Dec.{T, eqb, ltb}
 use Rattle.bits.proofs.Computed.{below, and_left, and_right, agree, bounded}
 use Rattle.primitives.specs.Words.{permuted, swapped_single}
-use Rattle.primitives.proofs.Moves.{permuted-lt, permuted-id, permuted-then, permuted_cong}
-use Rattle.primitives.proofs.Swaps.{exchange, apart, swap-is-move}
+use Rattle.primitives.proofs.Moves.{permuted-lt, permuted-id, permuted_then, permuted_cong}
+use Rattle.primitives.proofs.Swaps.{exchange, apart, swap_is_move}
 use Rattle.round_words.specs.Arranged.{nibble_at, arranged}
 
 -- the bits under a mask change places with those so many above
@@ -38,9 +38,9 @@ swaps_move (s ∷ ss) x t h =
     let one : Bool = apart s.mask s.above in
     let inside : Bool = below 32 (λ i. ltb (came_from ss i) 32) in
     let rest : T (inside && swaps_ok ss) = and_right one (inside && swaps_ok ss) t in
-    ap (swap_all ss) (swap-is-move x s.mask s.above (and_left one (inside && swaps_ok ss) t))
+    ap (swap_all ss) (swap_is_move x s.mask s.above (and_left one (inside && swaps_ok ss) t))
     ∙ swaps_move ss (permuted (exchange s.mask s.above) x) (and_right inside (swaps_ok ss) rest) (permuted-lt (exchange s.mask s.above) x)
-    ∙ permuted-then (came_from ss) (exchange s.mask s.above) x (bounded 32 32 (came_from ss) (and_left inside (swaps_ok ss) rest))
+    ∙ permuted_then (came_from ss) (exchange s.mask s.above) x (bounded 32 32 (came_from ss) (and_left inside (swaps_ok ss) rest))
 
 pub swaps_arrange : (k : ℕ) (ss : List Swap) (x : ℕ) → T (swaps_ok ss && below 32 (λ i. eqb (came_from ss i) (nibble_at k i))) → x < 2 ^ 32 → swap_all ss x ≡ arranged k x
 unfolding arranged

@@ -13,7 +13,7 @@ use Rattle.published.specs.Rounds.{Pair}
 use Rattle.round_words.specs.Arranged.{arranged, stands, words_from, pairs_from, in_row, of_row}
 use Rattle.round_words.specs.Calls.{row_code}
 use Rattle.round_words.specs.Inner.{place_in, mapped, rearranged}
-use Rattle.round_words.proofs.Arrangements.{stands-is}
+use Rattle.round_words.proofs.Arrangements.{stands_is}
 use Rattle.round_words.proofs.Keeping.{double}
 
 pub of_in_row : (ps : List Pair) → of_row (in_row ps) ≡ ps
@@ -37,15 +37,15 @@ twos zero (v ∷ u ∷ ns) e = absurd (none e)
     none e = omega arith
 twos (suc j) (v ∷ u ∷ ns) e = twos j ns (omega arith)
 
-in_of-row : (ns : List ℕ) → Twos ns → in_row (of_row ns) ≡ ns
+in_of_row : (ns : List ℕ) → Twos ns → in_row (of_row ns) ≡ ns
 unfolding in_row of_row
-in_of-row [] t = refl
-in_of-row (v ∷ []) t = absurd t
-in_of-row (v ∷ u ∷ ns) t = ap (λ (ms : List ℕ). v ∷ u ∷ ms) (in_of-row ns t)
+in_of_row [] t = refl
+in_of_row (v ∷ []) t = absurd t
+in_of_row (v ∷ u ∷ ns) t = ap (λ (ms : List ℕ). v ∷ u ∷ ms) (in_of_row ns t)
 
 -- eighty numbers are the row of forty pairs
 pub eighty : (ns : List ℕ) → length ns ≡ 80 → in_row (of_row ns) ≡ ns
-eighty ns e = in_of-row ns (twos 40 ns e)
+eighty ns e = in_of_row ns (twos 40 ns e)
 
 -- ---- place by place
 
@@ -66,8 +66,8 @@ at_place back xs k h = get_or_mapped (λ i x. arranged (place_in back i) x) 0 xs
 
 -- the maps of the definitions, which go pair by pair, go place by place: pair j of the row has the places 2j and 2j + 1
 module _ (f : ℕ → ℕ → ℕ) where
-  two-places : (j x y : ℕ) (k : ℕ) → k ≡ j % 5 → (f (2 * j / 2 % 5) x ≡ f k x) × (f (suc (2 * j) / 2 % 5) y ≡ f k y)
-  two-places j x y k e = (ap (λ (n : ℕ). f n x) (omega arith), ap (λ (n : ℕ). f n y) (omega arith))
+  two_places : (j x y : ℕ) (k : ℕ) → k ≡ j % 5 → (f (2 * j / 2 % 5) x ≡ f k x) × (f (suc (2 * j) / 2 % 5) y ≡ f k y)
+  two_places j x y k e = (ap (λ (n : ℕ). f n x) (omega arith), ap (λ (n : ℕ). f n y) (omega arith))
 
 pairs-row : (j k : ℕ) (ws : List ℕ) → Twos ws → k ≡ j % 5 → in_row (pairs_from k ws) ≡ mapped (λ i x. stands (suc (i / 2 % 5)) x) (2 * j) ws
 unfolding in_row pairs_from mapped
@@ -75,7 +75,7 @@ pairs-row j k [] t h = refl
 pairs-row j k (v ∷ []) t h = absurd t
 pairs-row j k (v ∷ u ∷ ws) t h =
     let next : 2 * suc j ≡ suc (suc (2 * j)) = omega arith in
-    let here = two-places (λ n x. stands (suc n) x) j v u k h in
+    let here = two_places (λ n x. stands (suc n) x) j v u k h in
     ap₂ (λ (a : ℕ) (l : List ℕ). a ∷ l) (sym here.0)
     (ap₂ (λ (a : ℕ) (l : List ℕ). a ∷ l) (sym here.1)
     (pairs-row (suc j) (suc k % 5) ws t (omega arith) ∙ ap (λ (i : ℕ). mapped (λ i x. stands (suc (i / 2 % 5)) x) i ws) next))
@@ -86,7 +86,7 @@ words_row j k [] t h = refl
 words_row j k (v ∷ []) t h = absurd t
 words_row j k (v ∷ u ∷ ns) t h =
     let next : 2 * suc j ≡ suc (suc (2 * j)) = omega arith in
-    let here = two-places (λ n x. arranged (suc n) x) j v u k h in
+    let here = two_places (λ n x. arranged (suc n) x) j v u k h in
     ap₂ (λ (a : ℕ) (l : List ℕ). a ∷ l) (sym here.0)
     (ap₂ (λ (a : ℕ) (l : List ℕ). a ∷ l) (sym here.1)
     (words_row (suc j) (suc k % 5) ns t (omega arith) ∙ ap (λ (i : ℕ). mapped (λ i x. arranged (suc (i / 2 % 5)) x) i ns) next))
@@ -99,7 +99,7 @@ mapped_cong f g i (x ∷ xs) e = ap₂ (λ (a : ℕ) (l : List ℕ). a ∷ l) (e
 
 pub pairs-told : (ws : List ℕ) → length ws ≡ 80 → rearranged true ws ≡ in_row (pairs_from 0 ws)
 unfolding rearranged place_in
-pairs-told ws e = sym (pairs-row 0 0 ws (twos 40 ws e) refl ∙ mapped_cong _ _ 0 ws (λ n x. stands-is (suc (n / 2 % 5)) x ∙ ap (λ (k : ℕ). arranged k x) (omega arith)))
+pairs-told ws e = sym (pairs-row 0 0 ws (twos 40 ws e) refl ∙ mapped_cong _ _ 0 ws (λ n x. stands_is (suc (n / 2 % 5)) x ∙ ap (λ (k : ℕ). arranged k x) (omega arith)))
 
 pub words-told : (ns : List ℕ) → length ns ≡ 80 → rearranged false ns ≡ words_from 0 (of_row ns)
 unfolding rearranged place_in
@@ -110,7 +110,7 @@ pub pair_row : (ws : List ℕ) (i : ℕ) → length ws ≡ 80 → i < 80 → get
 unfolding place_in
 pair_row ws i e h =
     ap (λ (l : List ℕ). get_or l i 0) (sym (pairs-told ws e)) ∙ at_place true ws i (rw e h) ∙ ap (λ (k : ℕ). arranged k (get_or ws i 0)) (omega arith)
-    ∙ sym (stands-is (suc (i / 2 % 5)) (get_or ws i 0))
+    ∙ sym (stands_is (suc (i / 2 % 5)) (get_or ws i 0))
 
 pub word_row : (row : List ℕ) (i : ℕ) → length row ≡ 80 → i < 80 → get_or (words_from 0 (of_row row)) i 0 ≡ arranged (suc (i / 2 % 5)) (get_or row i 0)
 unfolding place_in

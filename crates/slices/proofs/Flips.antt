@@ -18,7 +18,7 @@ use Rattle.bits.proofs.Computed.{at}
 use Rattle.published.specs.Rounds.{xored, constant_bit, round, unround}
 use Rattle.published.specs.Inner.{steps_back}
 use Rattle.published.proofs.Steps.{width128, bit-xored, xored-lt}
-use Rattle.published.proofs.Undone.{unround-is}
+use Rattle.published.proofs.Undone.{unround_is}
 use Rattle.turning.specs.Slices.{lane}
 use Rattle.turning.proofs.Blocks.{lane_lt, bit-lane}
 use Rattle.slices.specs.InnerMasks.{everywhere, pair_in}
@@ -35,8 +35,8 @@ bit-everywhere true b h = is_true (bit 0xffffffffffffffff b) (at 64 (bit 0xfffff
     is_true true t = refl
     is_true false t = absurd t
 
-one-bit-of : (w p : ℕ) → bit_and w (2 ^ p) ≡ w / 2 ^ p % 2 * 2 ^ p
-one-bit-of w p = ap (bit_and w) (sym double) ∙ and_high w 1 p
+one_bit_of : (w p : ℕ) → bit_and w (2 ^ p) ≡ w / 2 ^ p % 2 * 2 ^ p
+one_bit_of w p = ap (bit_and w) (sym double) ∙ and_high w 1 p
   where
     double : 2 ^ (1 + p) - 2 ^ p ≡ 2 ^ p
     double = ap (λ (m : ℕ). m - 2 ^ p) (pow-add 2 1 p) ∙ less (2 ^ p)
@@ -47,7 +47,7 @@ one-bit-of w p = ap (bit_and w) (sym double) ∙ and_high w 1 p
 -- the mask by a bit's value is that bit in every place
 pub mask_is : (w p : ℕ) → mask_by w (2 ^ p) ≡ everywhere (bit w p)
 unfolding bit digit
-mask_is w p = ap (λ (m : ℕ). cond (eqb m 0) 0 0xffffffffffffffff) (one-bit-of w p) ∙ go (w / 2 ^ p % 2) (small (w / 2 ^ p))
+mask_is w p = ap (λ (m : ℕ). cond (eqb m 0) 0 0xffffffffffffffff) (one_bit_of w p) ∙ go (w / 2 ^ p % 2) (small (w / 2 ^ p))
   where
     small : (m : ℕ) → m % 2 < 2
     small m = omega arith
@@ -61,15 +61,15 @@ mask_is w p = ap (λ (m : ℕ). cond (eqb m 0) 0 0xffffffffffffffff) (one-bit-of
 
 -- ---- lanes
 
-pub lanes-then : {f g : ℕ → ℕ → ℕ} {x y z : List ℕ} → Lanes f x y → Lanes g y z → Lanes (λ b s. g b (f b s)) x z
-lanes-then {f} {g} k l = record { size = l.size; lanes = λ b h. l.lanes b h ∙ ap (g b) (k.lanes b h) }
+pub lanes_then : {f g : ℕ → ℕ → ℕ} {x y z : List ℕ} → Lanes f x y → Lanes g y z → Lanes (λ b s. g b (f b s)) x z
+lanes_then {f} {g} k l = record { size = l.size; lanes = λ b h. l.lanes b h ∙ ap (g b) (k.lanes b h) }
 
 pub lanes_are : {f g : ℕ → ℕ → ℕ} {x y : List ℕ} → ((b : ℕ) → b < 64 → f b (lane x b) ≡ g b (lane x b)) → Lanes f x y → Lanes g x y
 lanes_are e l = record { size = l.size; lanes = λ b h. l.lanes b h ∙ e b h }
 
 -- nothing xored in
-pub flip-none : (k : ℕ → Bool) (y : List ℕ) → length y ≡ 128 → ((q : ℕ) → k q ≡ false) → Lanes (λ b. xored 128 k) y y
-flip-none k y len e =
+pub flip_none : (k : ℕ → Bool) (y : List ℕ) → length y ≡ 128 → ((q : ℕ) → k q ≡ false) → Lanes (λ b. xored 128 k) y y
+flip_none k y len e =
     record {
       size = len;
       lanes =
@@ -119,8 +119,8 @@ and-false true = refl
 pub no_bits : (c q : ℕ) → constant_bits 0 c q ≡ false
 no_bits c q = ap (λ (t : Bool). eqb (q % 4) 3 && t && bit c (q / 4)) (le-ltb (q / 4) 0 zero-le) ∙ ap (λ (t : Bool). t && bit c (q / 4)) (and-false (eqb (q % 4) 3))
 
-pub next-others : (i c q : ℕ) → (q ≡ 4 * i + 3 → ⊥) → constant_bits (i + 1) c q ≡ constant_bits i c q
-next-others i c q ne =
+pub next_others : (i c q : ℕ) → (q ≡ 4 * i + 3 → ⊥) → constant_bits (i + 1) c q ≡ constant_bits i c q
+next_others i c q ne =
     elim (ℕ_discrete (q % 4) 3) [
       | yes e ↦ ap (λ (t : Bool). eqb (q % 4) 3 && t && bit c (q / 4)) (same (λ f. ne (omega arith)))
       | no f ↦ ap (λ (t : Bool). t && ltb (q / 4) (i + 1) && bit c (q / 4)) (ne_eqb (q % 4) 3 f) ∙ sym (ap (λ (t : Bool). t && ltb (q / 4) i && bit c (q / 4)) (ne_eqb (q % 4) 3 f))
@@ -142,9 +142,9 @@ next_here i c =
 pub highest_others : (q : ℕ) → (q ≡ 127 → ⊥) → eqb q 127 ≡ false
 highest_others q ne = ne_eqb q 127 ne
 
-both-parts : (c s : ℕ) → xored 128 (λ q. eqb q 127) (xored 128 (constant_bits 6 c) s) ≡ xored 128 (constant_bit 128 c) s
+both_parts : (c s : ℕ) → xored 128 (λ q. eqb q 127) (xored 128 (constant_bits 6 c) s) ≡ xored 128 (constant_bit 128 c) s
 unfolding constant_bit
-both-parts c s =
+both_parts c s =
     bit_ext 128 (xored 128 (λ q. eqb q 127) (xored 128 (constant_bits 6 c) s)) (xored 128 (constant_bit 128 c) s) (xored-lt 128 (λ q. eqb q 127) (xored 128 (constant_bits 6 c) s)) (xored-lt 128 (constant_bit 128 c) s)
     (λ q h.
     bit-xored 128 (λ q. eqb q 127) (xored 128 (constant_bits 6 c) s) q h ∙ ap (λ (t : Bool). t ⊕ eqb q 127) (bit-xored 128 (constant_bits 6 c) s q h)
@@ -153,14 +153,14 @@ both-parts c s =
     ∙ sym (bit-xored 128 (constant_bit 128 c) s q h))
 
 pub constant_added : (c : ℕ) {x y z : List ℕ} → Lanes (λ b. xored 128 (constant_bits 6 c)) x y → Lanes (λ b. xored 128 (λ q. eqb q 127)) y z → Lanes (λ b. xored 128 (constant_bit 128 c)) x z
-constant_added c {x} k l = lanes_are (λ b h. both-parts c (lane x b)) (lanes-then k l)
+constant_added c {x} k l = lanes_are (λ b h. both_parts c (lane x b)) (lanes_then k l)
 
 -- ---- a round
 
-pub round-made : (key : List ℕ) (c : ℕ) {x y z : List ℕ} → Lanes (keyed key) x y → Lanes (λ b. xored 128 (constant_bit 128 c)) y z → Lanes (λ b. round 128 1 (pair_in key b) c) x z
+pub round_made : (key : List ℕ) (c : ℕ) {x y z : List ℕ} → Lanes (keyed key) x y → Lanes (λ b. xored 128 (constant_bit 128 c)) y z → Lanes (λ b. round 128 1 (pair_in key b) c) x z
 unfolding round
-round-made key c k l = lanes-then k l
+round_made key c k l = lanes_then k l
 
 pub round-unmade : (key : List ℕ) (c : ℕ) {x y z : List ℕ} → Lanes (λ b. xored 128 (constant_bit 128 c)) x y → Lanes (unkeyed key) y z → Lanes (λ b. unround 128 1 (pair_in key b) c) x z
 unfolding steps_back
-round-unmade key c {x} k l = lanes_are (λ b h. sym (unround-is 128 1 width128 (pair_in key b) c (lane x b) (lane_lt x b))) (lanes-then k l)
+round-unmade key c {x} k l = lanes_are (λ b h. sym (unround_is 128 1 width128 (pair_in key b) c (lane x b) (lane_lt x b))) (lanes_then k l)

@@ -31,9 +31,9 @@ get_or_listed zero g i h = absurd (omega arith)
 get_or_listed (suc n) g zero h = refl
 get_or_listed (suc n) g (suc i) h = get_or_listed n (λ i. g (suc i)) i (omega arith)
 
-pub mask-of : (words : List ℕ) (m : ℕ) → m < 2560 → get_or (masks_of words) m 0 ≡ mask_at words m
+pub mask_of : (words : List ℕ) (m : ℕ) → m < 2560 → get_or (masks_of words) m 0 ≡ mask_at words m
 unfolding masks_of
-mask-of words m h = get_or_listed 2560 (mask_at words) m h
+mask_of words m h = get_or_listed 2560 (mask_at words) m h
 
 pub masks-length : (words : List ℕ) → length (masks_of words) ≡ 2560
 unfolding masks_of
@@ -43,9 +43,9 @@ masks-length words = length-listed 2560 (mask_at words)
 abbrev pub MaskAt : List ℕ → ℕ → ℕ → Type 0
 MaskAt words m w = w ≡ mask_at words m
 
-pub all-masks : (words masks : List ℕ) (k : ℕ) → k ≡ 2560 → length masks ≡ 2560 → Fills (λ i. i) (MaskAt words) k masks → masks ≡ masks_of words
+pub all_masks : (words masks : List ℕ) (k : ℕ) → k ≡ 2560 → length masks ≡ 2560 → Fills (λ i. i) (MaskAt words) k masks → masks ≡ masks_of words
 unfolding masks_of
-all-masks words masks k e len f =
+all_masks words masks k e len f =
     ext_get_or 0 masks (listed 2560 (mask_at words)) (len ∙ sym (length-listed 2560 (mask_at words)))
     (λ m h. let inside : m < 2560 = omega arith in let below : m < k = omega arith in f.there m below ∙ sym (get_or_listed 2560 (mask_at words) m inside))
 
@@ -90,9 +90,9 @@ pub places_right : Places table
 unfolding nibble_at N P
 places_right = agree 160 (λ m. get_or table m 0) (λ m. 2 ^ nibble_at (4 - m / 32) (m % 32)) tt
 
-stands-bit : (k w i : ℕ) → k < 5 → i < 32 → bit (stands (suc k) w) i ≡ bit w (nibble_at (4 - k) i)
+stands_bit : (k w i : ℕ) → k < 5 → i < 32 → bit (stands (suc k) w) i ≡ bit w (nibble_at (4 - k) i)
 unfolding stands permuted
-stands-bit k w i hk hi = bit_of_bits 32 (λ i. bit w (nibble_at (5 - suc k) i)) i hi ∙ ap (λ (m : ℕ). bit w (nibble_at m i)) less
+stands_bit k w i hk hi = bit_of_bits 32 (λ i. bit w (nibble_at (5 - suc k) i)) i hi ∙ ap (λ (m : ℕ). bit w (nibble_at m i)) less
   where
     less : 5 - suc k ≡ 4 - k
     less = omega arith
@@ -104,7 +104,7 @@ word-masks words places new r hr rule len m i hi =
     ∙ ap (mask_by (get_or words r 0)) (get_or-take (32 * k + 32 - 32 * k) (drop (32 * k) places) i 0 (omega arith) ∙ get_or-drop (32 * k) places i 0 ∙ rule (32 * k + i) (omega arith))
     ∙ mask_is (get_or words r 0) (nibble_at (4 - (32 * k + i) / 32) ((32 * k + i) % 32))
     ∙ ap₂ (λ (a b : ℕ). everywhere (bit (get_or words r 0) (nibble_at (4 - a) b))) row column
-    ∙ ap everywhere (sym (stands-bit k (get_or words r 0) i (omega arith) hi))
+    ∙ ap everywhere (sym (stands_bit k (get_or words r 0) i (omega arith) hi))
     ∙ (λ t. everywhere (bit (stands (suc (round t % 5)) (get_or words (word t) 0)) (place t)))
   where
     k : ℕ
@@ -127,9 +127,9 @@ word-masks words places new r hr rule len m i hi =
 
 -- ---- the pairs in a lane
 
-stands-lt : (k w : ℕ) → stands k w < 2 ^ 32
+stands_lt : (k w : ℕ) → stands k w < 2 ^ 32
 unfolding stands permuted
-stands-lt k w = of_bits_lt 32 (λ i. bit w (nibble_at (5 - k) i))
+stands_lt k w = of_bits_lt 32 (λ i. bit w (nibble_at (5 - k) i))
 
 module _ (words masks : List ℕ) (is : masks ≡ masks_of words) (b : ℕ) (hb : b < 64) where
   -- the word that 32 masks are in a lane
@@ -139,10 +139,10 @@ module _ (words masks : List ℕ) (is : masks ≡ masks_of words) (b : ℕ) (hb 
       (λ i hi.
       let under : m + i < 64 = omega (arith, e i) in
       let inside : 64 * r + (m + i) < 2560 = omega arith in
-      ap (λ (w : ℕ). bit w b) (get_or-take 64 (drop (64 * r) masks) (m + i) 0 under ∙ get_or-drop (64 * r) masks (m + i) 0 ∙ ap (λ (l : List ℕ). get_or l (64 * r + (m + i)) 0) is ∙ mask-of words (64 * r + (m + i)) inside)
+      ap (λ (w : ℕ). bit w b) (get_or-take 64 (drop (64 * r) masks) (m + i) 0 under ∙ get_or-drop (64 * r) masks (m + i) 0 ∙ ap (λ (l : List ℕ). get_or l (64 * r + (m + i)) 0) is ∙ mask_of words (64 * r + (m + i)) inside)
       ∙ bit-everywhere (bit (stands (suc ((64 * r + (m + i)) / 64 % 5)) (get_or words ((64 * r + (m + i)) / 32) 0)) ((64 * r + (m + i)) % 32)) b hb
       ∙ (λ t. bit (stands (suc (high i under t % 5)) (get_or words (middle i (e i) hi t) 0)) (low i (e i) hi t)))
-      ∙ of_bits_bit 32 (stands (suc (r % 5)) (get_or words (2 * r + h) 0)) (stands-lt (suc (r % 5)) (get_or words (2 * r + h) 0))
+      ∙ of_bits_bit 32 (stands (suc (r % 5)) (get_or words (2 * r + h) 0)) (stands_lt (suc (r % 5)) (get_or words (2 * r + h) 0))
     where
       high : (i : ℕ) → m + i < 64 → (64 * r + (m + i)) / 64 ≡ r
       high i u = omega arith
@@ -154,10 +154,10 @@ module _ (words masks : List ℕ) (is : masks ≡ masks_of words) (b : ℕ) (hb 
       low i f l = omega arith
 
   -- from round r on
-  pairs-by : length words ≡ 80 → (n r : ℕ) → r + n ≡ 40 → pairs_in masks b n r ≡ pairs_from (r % 5) (drop (2 * r) words)
+  pairs_by : length words ≡ 80 → (n r : ℕ) → r + n ≡ 40 → pairs_in masks b n r ≡ pairs_from (r % 5) (drop (2 * r) words)
   unfolding pairs_in pairs_from pair_in
-  pairs-by len zero r e = let end : length words ≤ 2 * r = omega arith in ap (pairs_from (r % 5)) (sym (drop_of_length-le words end))
-  pairs-by len (suc n) r e =
+  pairs_by len zero r e = let end : length words ≤ 2 * r = omega arith in ap (pairs_from (r % 5)) (sym (drop_of_length-le words end))
+  pairs_by len (suc n) r e =
       let one : drop (2 * r) words ≡ get_or words (2 * r) 0 ∷ drop (suc (2 * r)) words = drop-cons words (2 * r) 0 (omega arith) in
       let two : drop (suc (2 * r)) words ≡ get_or words (suc (2 * r)) 0 ∷ drop (suc (suc (2 * r))) words = drop-cons words (suc (2 * r)) 0 (omega arith) in
       let first : 2 * r + 0 ≡ 2 * r = omega arith in
@@ -170,11 +170,11 @@ module _ (words masks : List ℕ) (is : masks ≡ masks_of words) (b : ℕ) (hb 
       of_bits_cong 32 (λ i. bit (get_or (take 64 (drop (64 * r) masks)) i 0) b) (λ i. bit (get_or (take 64 (drop (64 * r) masks)) (0 + i) 0) b) (λ i h. ap (λ (k : ℕ). bit (get_or (take 64 (drop (64 * r) masks)) k 0) b) (none i))
       ∙ word_in r 0 0 (omega arith) (lit< tt) (λ i. refl) ∙ ap (λ (k : ℕ). stands (suc (r % 5)) (get_or words k 0)) first in
       ap₂ (λ (p : Pair) (ps : List Pair). p ∷ ps) (λ t. record { u = u t; v = v t })
-      (pairs-by len n (suc r) (omega arith) ∙ ap₂ (λ (k m : ℕ). pairs_from k (drop m words)) next after)
+      (pairs_by len n (suc r) (omega arith) ∙ ap₂ (λ (k m : ℕ). pairs_from k (drop m words)) next after)
       ∙ sym (ap (pairs_from (r % 5)) (one ∙ ap (λ (l : List ℕ). get_or words (2 * r) 0 ∷ l) two))
     where
       none : (i : ℕ) → i ≡ 0 + i
       none i = omega arith
 
   pub pairs_are : length words ≡ 80 → pairs_in masks b 40 0 ≡ pairs_from 0 words
-  pairs_are len = pairs-by len 40 0 refl
+  pairs_are len = pairs_by len 40 0 refl

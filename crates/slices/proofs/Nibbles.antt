@@ -28,10 +28,10 @@ module _ (f : ℕ → ℕ) (s r : Nibble) where
   abbrev column : ℕ → ℕ
   column b = nibble_at_lem s.s0 s.s1 s.s2 s.s3 b
 
-  pub boxed-by : ((b : ℕ) → b < 64 → bit r.s0 b ≡ bit (f (column b)) 0) → ((b : ℕ) → b < 64 → bit r.s1 b ≡ bit (f (column b)) 1)
+  pub boxed_by : ((b : ℕ) → b < 64 → bit r.s0 b ≡ bit (f (column b)) 0) → ((b : ℕ) → b < 64 → bit r.s1 b ≡ bit (f (column b)) 1)
       → ((b : ℕ) → b < 64 → bit r.s2 b ≡ bit (f (column b)) 2) → ((b : ℕ) → b < 64 → bit r.s3 b ≡ bit (f (column b)) 3) → Boxed f s r
   unfolding nibble_in of_bits number
-  boxed-by e0 e1 e2 e3 =
+  boxed_by e0 e1 e2 e3 =
       record { through = λ j b hj hb. four (λ j. bit (word_of r j) b ≡ bit (f (nibble_in s b)) j) (e0 b hb) (e1 b hb) (e2 b hb) (e3 b hb) j hj }
 
 -- the nibble in a lane of four slices is nibble n of z, if their bits are
@@ -66,9 +66,9 @@ module _ (key : List ℕ) (b : ℕ) where
   abbrev key_at : ℕ → ℕ → Bool
   key_at a j = get_or (false ∷ bit (get_or key a 0) b ∷ bit (get_or key (32 + a) 0) b ∷ false ∷ []) j false
 
-  key-at : (a j : ℕ) → a < 32 → j < 4 → key_bit 1 (pair_in key b) (4 * a + j) ≡ key_at a j
+  key_at_lem : (a j : ℕ) → a < 32 → j < 4 → key_bit 1 (pair_in key b) (4 * a + j) ≡ key_at a j
   unfolding key_bit
-  key-at a j ha hj =
+  key_at_lem a j ha hj =
       let low : (4 * a + j) % 4 ≡ j = omega arith in
       let high : (4 * a + j) / 4 ≡ a = omega arith in
       rw (low, high)
@@ -122,7 +122,7 @@ module _ (x key y : List ℕ) (n a b c d : ℕ) (hn : n < 32) (ea : 4 * a ≡ P 
     put-bit boxed j w hj e l hl =
         e l hl
         ∙ ap₂ ◌⊕◌ (boxed-bit entry entry_lt read t boxed l (lane x l) n hl hn (read-bit l) j hj)
-        (sym (key-at key l (target j) j (target-lt j hj) hj) ∙ ap (key_bit 1 (pair_in key l)) (places j hj))
+        (sym (key_at_lem key l (target j) j (target-lt j hj) hj) ∙ ap (key_bit 1 (pair_in key l)) (places j hj))
 
     pub nibble_scattered : Boxed entry read t → Scattered x key (4 * n) y
         → Scattered x key (4 * n + 4)
@@ -163,7 +163,7 @@ module _ (x key y : List ℕ) (n a b c d : ℕ) (hn : n < 32) (ea : 4 * a ≡ P 
         ∙ sym
         (bit_of_bits 128 (λ i. bit (off l) (P 128 i)) (4 * n + j) (omega arith) ∙ ap (bit (off l)) (sym (places j hj))
         ∙ bit-xored 128 (key_bit 1 (pair_in key l)) (lane x l) q hq
-        ∙ ap₂ ◌⊕◌ (bit-lane x l q hq) (key-at key l (target j) j (target-lt j hj) hj))
+        ∙ ap₂ ◌⊕◌ (bit-lane x l q hq) (key_at_lem key l (target j) j (target-lt j hj) hj))
 
     got-bit : Boxed unentry fetched t → (j : ℕ) → j < 4 → GatheredAt x key (4 * n + j) (word_of t j)
     got-bit boxed j hj l hl = boxed-bit unentry unentry-lt fetched t boxed l (un_perm_bits 128 (off l)) n hl hn (fetched-bit l) j hj

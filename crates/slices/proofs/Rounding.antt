@@ -17,12 +17,12 @@ use Rattle.slices.specs.Inner.{Lanes}
 abbrev constants : List ℕ
 constants = 0x01 ∷ 0x03 ∷ 0x07 ∷ 0x0f ∷ 0x1f ∷ 0x3e ∷ 0x3d ∷ 0x3b ∷ 0x37 ∷ 0x2f ∷ 0x1e ∷ 0x3c ∷ 0x39 ∷ 0x33 ∷ 0x27 ∷ 0x0e ∷ 0x1d ∷ 0x3a ∷ 0x35 ∷ 0x2b ∷ 0x16 ∷ 0x2c ∷ 0x18 ∷ 0x30 ∷ 0x21 ∷ 0x02 ∷ 0x05 ∷ 0x0b ∷ 0x17 ∷ 0x2e ∷ 0x1c ∷ 0x38 ∷ 0x31 ∷ 0x23 ∷ 0x06 ∷ 0x0d ∷ 0x1b ∷ 0x36 ∷ 0x2d ∷ 0x1a ∷ []
 
-pub constant-at : (r : ℕ) → r < 40 → get_or constants r 0 ≡ constant (suc r)
+pub constant_at_lem : (r : ℕ) → r < 40 → get_or constants r 0 ≡ constant (suc r)
 unfolding constant step bit digit
-constant-at = agree 40 (λ r. get_or constants r 0) (λ r. constant (suc r)) tt
+constant_at_lem = agree 40 (λ r. get_or constants r 0) (λ r. constant (suc r)) tt
 
-pub constant-next : (r : ℕ) → r < 39 → get_or constants (r + 1) 0 ≡ constant (suc (suc r))
-constant-next r h = constant-at (r + 1) (omega arith) ∙ ap (λ (k : ℕ). constant (suc k)) next
+pub constant_next : (r : ℕ) → r < 39 → get_or constants (r + 1) 0 ≡ constant (suc (suc r))
+constant_next r h = constant_at_lem (r + 1) (omega arith) ∙ ap (λ (k : ℕ). constant (suc k)) next
   where
     next : r + 1 ≡ suc r
     next = omega arith
@@ -57,8 +57,8 @@ module _ (masks : List ℕ) (r : ℕ) {v w : List ℕ} (ev : v ≡ take 64 (drop
             ∙ (λ i. round 128 1 (pair_in (ew i) b) (ed i) (round 128 1 (pair_in (ev i) b) (ec i) (lane x b)));
       }
 
-  pub two-unmade : Lanes (λ b. unround 128 1 (pair_in w b) d) x y → Lanes (λ b. unround 128 1 (pair_in v b) c) y z → Lanes (unboth masks r) x z
-  two-unmade k l =
+  pub two_unmade : Lanes (λ b. unround 128 1 (pair_in w b) d) x y → Lanes (λ b. unround 128 1 (pair_in v b) c) y z → Lanes (unboth masks r) x z
+  two_unmade k l =
       record {
         size = l.size;
         lanes =
@@ -79,9 +79,9 @@ rest_all masks x e = record { size = e; rest = λ n h b l. ap (λ (k : ℕ). rou
     all : (n : ℕ) → 0 + n ≡ 40 → n ≡ 40
     all n h = omega arith
 
-pub rest-less : (masks x₀ : List ℕ) (r : ℕ) {x y : List ℕ} → Rest masks x₀ r x → Lanes (both masks r) x y → Rest masks x₀ (r + 2) y
+pub rest_less : (masks x₀ : List ℕ) (r : ℕ) {x y : List ℕ} → Rest masks x₀ r x → Lanes (both masks r) x y → Rest masks x₀ (r + 2) y
 unfolding rounds pairs_in
-rest-less masks x₀ r {x} {y} before two =
+rest_less masks x₀ r {x} {y} before two =
     record {
       size = two.size;
       rest =
@@ -97,9 +97,9 @@ rest-less masks x₀ r {x} {y} before two =
     left : (n : ℕ) → r + 2 + n ≡ 40 → r + suc (suc n) ≡ 40
     left n h = omega arith
 
-pub rest-none : (masks x₀ x : List ℕ) (r : ℕ) → r ≡ 40 → Rest masks x₀ r x → Lanes (λ b. rounds128 (pairs_in masks b 40 0) 0) x₀ x
+pub rest_none : (masks x₀ x : List ℕ) (r : ℕ) → r ≡ 40 → Rest masks x₀ r x → Lanes (λ b. rounds128 (pairs_in masks b 40 0) 0) x₀ x
 unfolding rounds pairs_in
-rest-none masks x₀ x r e s = record { size = s.size; lanes = λ b l. s.rest 0 (end e) b l }
+rest_none masks x₀ x r e s = record { size = s.size; lanes = λ b l. s.rest 0 (end e) b l }
   where
     end : r ≡ 40 → r + 0 ≡ 40
     end e = omega arith
@@ -110,16 +110,16 @@ pub record Undone (masks x₀ : List ℕ) (r : ℕ) (x : List ℕ) : Type 0 wher
   pub size : length x ≡ 128
   pub undone : (n : ℕ) → r + n ≡ 40 → (b : ℕ) → b < 64 → lane x b ≡ unrounds128 (pairs_in masks b n r) r (lane x₀ b)
 
-pub undone-none : (masks x : List ℕ) → length x ≡ 128 → Undone masks x 40 x
+pub undone_none : (masks x : List ℕ) → length x ≡ 128 → Undone masks x 40 x
 unfolding unrounds pairs_in
-undone-none masks x e = record { size = e; undone = λ n h b l. sym (ap (λ (k : ℕ). unrounds128 (pairs_in masks b k 40) 40 (lane x b)) (none n h)) }
+undone_none masks x e = record { size = e; undone = λ n h b l. sym (ap (λ (k : ℕ). unrounds128 (pairs_in masks b k 40) 40 (lane x b)) (none n h)) }
   where
     none : (n : ℕ) → 40 + n ≡ 40 → n ≡ 0
     none n h = omega arith
 
-pub undone-more : (masks x₀ : List ℕ) (r k : ℕ) {x y : List ℕ} → k ≡ suc (suc r) → k ≤ 40 → Undone masks x₀ k x → Lanes (unboth masks r) x y → Undone masks x₀ r y
+pub undone_more : (masks x₀ : List ℕ) (r k : ℕ) {x y : List ℕ} → k ≡ suc (suc r) → k ≤ 40 → Undone masks x₀ k x → Lanes (unboth masks r) x y → Undone masks x₀ r y
 unfolding unrounds pairs_in
-undone-more masks x₀ r k {x} {y} e room before two = record { size = two.size; undone = λ n h b l. go n h b l }
+undone_more masks x₀ r k {x} {y} e room before two = record { size = two.size; undone = λ n h b l. go n h b l }
   where
     go : (n : ℕ) → r + n ≡ 40 → (b : ℕ) → b < 64 → lane y b ≡ unrounds128 (pairs_in masks b n r) r (lane x₀ b)
     go zero h b l = absurd (omega arith)
@@ -128,8 +128,8 @@ undone-more masks x₀ r k {x} {y} e room before two = record { size = two.size;
         let left : k + n ≡ 40 = omega arith in
         two.lanes b l ∙ ap (unboth masks r b) (before.undone n left b l ∙ ap (λ (m : ℕ). unrounds128 (pairs_in masks b n m) m (lane x₀ b)) e)
 
-pub undone-all : (masks x₀ x : List ℕ) (r : ℕ) → r ≡ 0 → Undone masks x₀ r x → Lanes (λ b. unrounds128 (pairs_in masks b 40 0) 0) x₀ x
-undone-all masks x₀ x r e s = record { size = s.size; lanes = λ b l. s.undone 40 (end e) b l ∙ ap (λ (k : ℕ). unrounds128 (pairs_in masks b 40 k) k (lane x₀ b)) e }
+pub undone_all : (masks x₀ x : List ℕ) (r : ℕ) → r ≡ 0 → Undone masks x₀ r x → Lanes (λ b. unrounds128 (pairs_in masks b 40 0) 0) x₀ x
+undone_all masks x₀ x r e s = record { size = s.size; lanes = λ b l. s.undone 40 (end e) b l ∙ ap (λ (k : ℕ). unrounds128 (pairs_in masks b 40 k) k (lane x₀ b)) e }
   where
     end : r ≡ 0 → r + 40 ≡ 40
     end e = omega arith

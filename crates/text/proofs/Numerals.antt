@@ -13,8 +13,8 @@ use Rattle.text.specs.Hex.{hex_digits, place_of, value_of, hex_of}
 use Rattle.text.specs.Decimal.{last_digits, decimal_of}
 
 -- the digits are two runs of bytes
-pub digit-is : (d : ℕ) → d < 16 → cond (ltb d 10) (48 + d) (d - 10 + 97) ≡ get_or hex_digits d 0
-digit-is = agree 16 (λ d. cond (ltb d 10) (48 + d) (d - 10 + 97)) (λ d. get_or hex_digits d 0) tt
+pub digit_is : (d : ℕ) → d < 16 → cond (ltb d 10) (48 + d) (d - 10 + 97) ≡ get_or hex_digits d 0
+digit_is = agree 16 (λ d. cond (ltb d 10) (48 + d) (d - 10 + 97)) (λ d. get_or hex_digits d 0) tt
 
 -- a digit written and read
 pub value-digit : (d : ℕ) → d < 16 → value_of (get_or hex_digits d 0) ≡ d

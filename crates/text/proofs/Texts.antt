@@ -53,8 +53,8 @@ grows f hom l bs i h =
     ∙ ap (λ (x : List ℕ). l ++ x) (sym (hom (take i bs) (get_or bs i 0 ∷ [])) ∙ ap f (sym (take-suc bs i 0 h) ∙ ap (λ (n : ℕ). take n bs) (sym (add-one i))))
 
 -- as many elements as there are, if n are too many
-pub take-most : (n k m : ℕ) (l : List ℕ) → length l ≡ k → m ≡ min n k → take (m - 0) l ≡ take n l
-take-most n k m l long e = go (leb n k) refl
+pub take_most : (n k m : ℕ) (l : List ℕ) → length l ≡ k → m ≡ min n k → take (m - 0) l ≡ take n l
+take_most n k m l long e = go (leb n k) refl
   where
     go : (t : Bool) → leb n k ≡ t → take (m - 0) l ≡ take n l
     go true p = let h : n ≤ k = leb-true n k p in let same : m - 0 ≡ n = omega arith in ap (λ (i : ℕ). take i l) same

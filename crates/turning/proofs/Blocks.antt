@@ -59,9 +59,9 @@ module _ (bytes : List ℕ) (len : length bytes ≡ 1024) (all : Bytes bytes) wh
   block-bytes b = bytes_take 16 (drop (16 * b) bytes) (bytes_drop (16 * b) bytes all)
 
   -- bit q of block b, in its half
-  bit-of : (b q : ℕ) → b < 64 → q < 128
+  bit_of : (b q : ℕ) → b < 64 → q < 128
       → bit (get_or bytes (16 * ((2 * b + q / 64) / 2) + 8 * (1 - (2 * b + q / 64) % 2) + (7 - q % 64 / 8)) 0) (q % 64 % 8) ≡ bit (from_bytes (block_at bytes b)) q
-  bit-of b q hb hq =
+  bit_of b q hb hq =
       let size : length (block_at bytes b) ≡ 16 = block-length b hb in
       let room : q < 8 * length (block_at bytes b) = omega arith in
       let under : 15 - q / 8 < 16 = omega arith in
@@ -90,15 +90,15 @@ module _ (bytes : List ℕ) (len : length bytes ≡ 1024) (all : Bytes bytes) wh
       ap (λ (w : ℕ). bit w b) (placed.placed q hq)
       ∙ turned.turned p b hp hb
       ∙ halves.half (2 * b + p / 64) (p % 64) (omega arith) (omega arith)
-      ∙ bit-of b p hb hp)
+      ∙ bit_of b p hb hp)
       ∙ sym (read_is order (block_at bytes b) (block-length b hb) (block-bytes b))
 
 -- ---- saving
 
 -- two halves are the bytes of a number that has their bits
 module _ (x high low : ℕ) (up : (p : ℕ) → p < 64 → bit high p ≡ bit x (64 + p)) (down : (p : ℕ) → p < 64 → bit low p ≡ bit x p) where
-  byte-up : (m : ℕ) → T (ltb m 8) → digit 256 high m ≡ digit 256 x (8 + m)
-  byte-up m t =
+  byte_up : (m : ℕ) → T (ltb m 8) → digit 256 high m ≡ digit 256 x (8 + m)
+  byte_up m t =
       let h : m < 8 = lit< t in
       bit_ext 8 (digit 256 high m) (digit 256 x (8 + m)) (digit_lt 256 (lit< tt) high m) (digit_lt 256 (lit< tt) x (8 + m))
       (λ j l. bit-digit 8 high m j l ∙ up (8 * m + j) (omega arith) ∙ ap (bit x) (place j) ∙ sym (bit-digit 8 x (8 + m) j l))
@@ -116,7 +116,7 @@ module _ (x high low : ℕ) (up : (p : ℕ) → p < 64 → bit high p ≡ bit x 
   unfolding to_bytes
   halves-written =
       λ i.
-      byte-up 7 tt i ∷ byte-up 6 tt i ∷ byte-up 5 tt i ∷ byte-up 4 tt i ∷ byte-up 3 tt i ∷ byte-up 2 tt i ∷ byte-up 1 tt i ∷ byte-up 0 tt i
+      byte_up 7 tt i ∷ byte_up 6 tt i ∷ byte_up 5 tt i ∷ byte_up 4 tt i ∷ byte_up 3 tt i ∷ byte_up 2 tt i ∷ byte_up 1 tt i ∷ byte_up 0 tt i
       ∷ byte_down 7 tt i ∷ byte_down 6 tt i ∷ byte_down 5 tt i ∷ byte_down 4 tt i ∷ byte_down 3 tt i ∷ byte_down 2 tt i ∷ byte_down 1 tt i ∷ byte_down 0 tt i
       ∷ []
 

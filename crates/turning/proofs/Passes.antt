@@ -29,10 +29,10 @@ pub up_is : {R : ℕ → ℕ → Type 0} {k : ℕ} {y out : List ℕ} → out �
 up_is e u = rw e u
 
 -- eight more
-pub eight-more : {R : ℕ → ℕ → Type 0} (i : ℕ) (y : List ℕ) (t : Eight) → i < 16 → ((k : ℕ) → k < 8 → R (8 * i + k) (word_of t k)) → Up R (8 * i) y
+pub eight_more : {R : ℕ → ℕ → Type 0} (i : ℕ) (y : List ℕ) (t : Eight) → i < 16 → ((k : ℕ) → k < 8 → R (8 * i + k) (word_of t k)) → Up R (8 * i) y
     → Up R (8 * (i + 1)) (eight_put y (8 * i) t)
 unfolding eight_put
-eight-more {R} i y t h right u =
+eight_more {R} i y t h right u =
     up_more (8 * i + 7) t.w7 (8 * (i + 1)) refl (omega arith) (omega arith) (right 7 (lit< tt))
     (up_more (8 * i + 6) t.w6 (8 * i + 7) refl (omega arith) (omega arith) (right 6 (lit< tt))
     (up_more (8 * i + 5) t.w5 (8 * i + 6) refl (omega arith) (omega arith) (right 5 (lit< tt))
@@ -50,8 +50,8 @@ eight-more {R} i y t h right u =
 abbrev pub PassedAt : (ℕ → ℕ) → (ℕ → ℕ → ℕ) → List ℕ → ℕ → ℕ → Type 0
 PassedAt from to x r w = (p : ℕ) → p < 64 → bit w p ≡ bit (get_or x (r / 8 + 16 * from p) 0) (to (r % 8) p)
 
-words-at : (x : List ℕ) (i k : ℕ) → k < 8 → word_of (eight_at x i) k ≡ get_or x (i + 16 * k) 0
-words-at x i = eight (λ k. word_of (eight_at x i) k ≡ get_or x (i + 16 * k) 0) (ap (λ (m : ℕ). get_or x m 0) none) refl refl refl refl refl refl refl
+words_at : (x : List ℕ) (i k : ℕ) → k < 8 → word_of (eight_at x i) k ≡ get_or x (i + 16 * k) 0
+words_at x i = eight (λ k. word_of (eight_at x i) k ≡ get_or x (i + 16 * k) 0) (ap (λ (m : ℕ). get_or x m 0) none) refl refl refl refl refl refl refl
   where
     none : i ≡ i + 16 * 0
     none = omega arith
@@ -60,7 +60,7 @@ module _ (from : ℕ → ℕ) (to : ℕ → ℕ → ℕ) (small : (p : ℕ) → 
   pub part : (x : List ℕ) (i : ℕ) (t : Eight) → EightTurned from to (eight_at x i) t → (k : ℕ) → k < 8 → PassedAt from to x (8 * i + k) (word_of t k)
   part x i t e k hk p hp =
       e.turned k p hk hp
-      ∙ ap (λ (w : ℕ). bit w (to k p)) (words-at x i (from p) (small p hp))
+      ∙ ap (λ (w : ℕ). bit w (to k p)) (words_at x i (from p) (small p hp))
       ∙ ap₂ (λ (a b : ℕ). bit (get_or x (a + 16 * from p) 0) (to b p)) high low
     where
       high : i ≡ (8 * i + k) / 8
@@ -80,8 +80,8 @@ bit-small p h = omega arith
 
 -- ---- both passes
 
-pub both-passes : (x y z : List ℕ) → Passed byte_from byte_to x y → Passed bit_from bit_to y z → Turned x z
-both-passes x y z wide narrow =
+pub both_passes : (x y z : List ℕ) → Passed byte_from byte_to x y → Passed bit_from bit_to y z → Turned x z
+both_passes x y z wide narrow =
     record {
       turned =
           λ q b hq hb.
@@ -116,8 +116,8 @@ block_more bytes x b low high h l u up =
     lower : 16 * b + 8 ≡ 16 * (2 * b / 2) + 8 * (1 - 2 * b % 2)
     lower = omega arith
 
-pub all-halves : (bytes x : List ℕ) (k : ℕ) → k ≡ 128 → Up (HalfAt bytes) k x → Halves bytes x
-all-halves bytes x k e u = record { half = λ r p hr hp. u.1.there r (omega arith) p hp }
+pub all_halves : (bytes x : List ℕ) (k : ℕ) → k ≡ 128 → Up (HalfAt bytes) k x → Halves bytes x
+all_halves bytes x k e u = record { half = λ r p hr hp. u.1.there r (omega arith) p hp }
 
 -- ---- places
 

@@ -10,13 +10,13 @@ use Rattle.bench_turns.proofs.Soundness.{unmapped}
 use Rattle.bench.proofs.admits_at.Statement.{statement}
 use Rattle.bench.proofs.admits_at.Tie as tie
 
-returns-2 : tie.Need-returns-2
+returns_2 : tie.Need-returns-2
 unfolding lane_count admits
-returns-2 c =
+returns_2 c =
     let a = c.before.args in
     let b = a.t1 in
     let long : length b.lanes ≡ lane_count = search unmapped in
     sym (ap (λ (l : Lane). admits l a.caller) (get_or-eq_default b.lanes _ (omega arith)))
 
 pub admits-at-spec : {M : Type 1} → statement M
-admits-at-spec = tie.close (tie.spec (λ c. search rules) (λ c. search rules) (λ c κs. search rules) (λ c. search rules) returns-2)
+admits-at-spec = tie.close (tie.spec (λ c. search rules) (λ c. search rules) (λ c κs. search rules) (λ c. search rules) returns_2)

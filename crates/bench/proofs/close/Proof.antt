@@ -15,8 +15,8 @@ returns c =
 put-requires : tie.Need-put-requires
 put-requires c κs = (close_passed _ _ _ (sym c.before.before.close-code.ensures ∙ c.before.if1.false)).lane_lt
 
-returns-2 : tie.Need-returns-2
-returns-2 c =
+returns_2 : tie.Need-returns-2
+returns_2 c =
     let at = c.before.before in
     let a = at.before.before.before.before.args in
     close-done a.b at.before.before.before.sound.ensures a.lane a.owner at.before.before.admits-at.ensures at.before.close-code.ensures at.if1.false
@@ -25,4 +25,4 @@ returns-2 c =
 pub close_spec : {M : Type 1} → statement M
 close_spec =
     tie.close
-    (tie.spec (λ c κs. search rules) (λ c κs. search rules) (λ c κs. search rules) returns (λ c κs. search rules) put-requires returns-2)
+    (tie.spec (λ c κs. search rules) (λ c κs. search rules) (λ c κs. search rules) returns (λ c κs. search rules) put-requires returns_2)

@@ -28,8 +28,8 @@ cast-opened-2 c =
 put-requires : tie.Need-put-requires
 put-requires c κs = (open_passed _ _ _ _ _ _ _ _ (sym c.before.before.open_code.ensures ∙ c.before.if1.false)).lane_lt
 
-returns-2 : tie.Need-returns-2
-returns-2 c =
+returns_2 : tie.Need-returns-2
+returns_2 c =
     let at = c.before.before in
     let a = at.before.before.before.before.before.before.args in
     open_done a.b at.before.before.before.sound.ensures a.lane a.owner a.direction a.order a.key.now a.block.now at.before.before.phase-at.ensures
@@ -47,4 +47,4 @@ open-lane-spec =
     cast-opened-2
     (λ c κs. search rules)
     put-requires
-    returns-2)
+    returns_2)

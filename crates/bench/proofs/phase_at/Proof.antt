@@ -9,12 +9,12 @@ use Rattle.bench_turns.proofs.Soundness.{unmapped}
 use Rattle.bench.proofs.phase_at.Statement.{statement}
 use Rattle.bench.proofs.phase_at.Tie as tie
 
-returns-2 : tie.Need-returns-2
+returns_2 : tie.Need-returns-2
 unfolding lane_count
-returns-2 c =
+returns_2 c =
     let b = c.before.args.t1 in
     let long : length b.lanes ≡ lane_count = search unmapped in
     sym (ap (λ (l : Lane). l.phase) (get_or-eq_default b.lanes _ (omega arith)))
 
 pub phase-at-spec : {M : Type 1} → statement M
-phase-at-spec = tie.close (tie.spec (λ c. search rules) (λ c. search rules) (λ c. search rules) returns-2)
+phase-at-spec = tie.close (tie.spec (λ c. search rules) (λ c. search rules) (λ c. search rules) returns_2)

@@ -26,8 +26,8 @@ put-requires c κs =
     let at = c.before.before.before.before.before.before in
     (take-passed _ _ _ _ _ (sym at.before.take-code.ensures ∙ at.if1.false)).lane_lt
 
-returns-2 : tie.Need-returns-2
-returns-2 c =
+returns_2 : tie.Need-returns-2
+returns_2 c =
     let at = c.before.before.before.before.before.before.before in
     let a = at.before.before.before.before.before.before.args in
     take_done a.t1 at.before.before.before.sound.ensures a.lane a.owner a.out.now at.before.before.before.before.admits-at.ensures at.before.before.phase-at.ensures
@@ -49,4 +49,4 @@ take_spec =
     (λ c κs. search rules)
     put-requires
     (λ c. search rules)
-    returns-2)
+    returns_2)

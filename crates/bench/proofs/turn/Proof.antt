@@ -9,8 +9,8 @@ returns c =
     let a = c.before.before.before.args in
     turn-refused a.b c.before.before.sound.ensures a.asked c.before.turn-code.ensures c.if1.true
 
-returns-2 : tie.Need-returns-2
-returns-2 c =
+returns_2 : tie.Need-returns-2
+returns_2 c =
     let at = c.before.before in
     let a = at.before.before.before.args in
     turn-done a.b at.before.before.sound.ensures a.asked at.before.turn-code.ensures at.if1.false
@@ -19,4 +19,4 @@ returns-2 c =
 pub turn_spec : {M : Type 1} → statement M
 turn_spec =
     tie.close
-    (tie.spec (λ c κs. search rules) (λ c κs. search rules) returns (λ c κs. search rules) returns-2)
+    (tie.spec (λ c κs. search rules) (λ c κs. search rules) returns (λ c κs. search rules) returns_2)

@@ -13,8 +13,8 @@ told {last = last} e = λ i. record { code = e i; made = 0; last = last }
 returns : tie.Need-returns
 returns c = let e = c.before.turn-code.ensures in (told e, sym (if_refused _ _ _ (λ z. c.if1.true (e ∙ z))))
 
-returns-2 : tie.Need-returns-2
-returns-2 c = let e = c.before.turn-code.ensures in (told e, sym (if_done_lem _ _ _ (sym e ∙ c.if1.false)))
+returns_2 : tie.Need-returns-2
+returns_2 c = let e = c.before.turn-code.ensures in (told e, sym (if_done_lem _ _ _ (sym e ∙ c.if1.false)))
 
 pub begun-spec : {M : Type 1} → statement M
-begun-spec = tie.close (tie.spec (λ c κs. search rules) returns returns-2)
+begun-spec = tie.close (tie.spec (λ c κs. search rules) returns returns_2)

@@ -29,12 +29,12 @@ returns c =
     let here = eq-eqb a.s.next a.lane c.before.if2.true in
     (refl, both _ _ _ (arms at.if1.branch (λ w. (w.0.taken, w.1 ∙ at.before.sound-lane.ensures)) (λ w. (w.0.left, w.1))), rw here, rw here c.admits.ensures)
 
-returns-2 : tie.Need-returns-2
-returns-2 c =
+returns_2 : tie.Need-returns-2
+returns_2 c =
     let at = c.before.before.before in
     let a = at.before.before.args in
     let elsewhere = ne_eqb a.s.next a.lane c.if2.false in
     (refl, both _ _ _ (arms at.if1.branch (λ w. (w.0.taken, w.1 ∙ at.before.sound-lane.ensures)) (λ w. (w.0.left, w.1))), rw elsewhere, rw elsewhere)
 
 pub noted-spec : {M : Type 1} → statement M
-noted-spec = tie.close (tie.spec (λ c κs. search rules) add-next (λ c κs. search rules) returns returns-2)
+noted-spec = tie.close (tie.spec (λ c κs. search rules) add-next (λ c κs. search rules) returns returns_2)

@@ -117,11 +117,11 @@ module _ {M : Type 1} {𝓤 : Ura M} (𝓛 : Logic 𝓤) (at_mem : Memory → SP
       owned ! u32 (Is u32) (uint_Makes 𝓛 w32) c _ is $ done !
 
   -- what `opened`'s triple binds outside
-  abbrev to-opened : (Open 𝓛 at_mem run).Ghost
-  to-opened = (((κ₁, (κ₂, tt)), (s₁, (s₂, tt)), tt, (owner, (way, (order, (key, (block, tt))))), (vint w16 owner ∷ [], (vint w8 way ∷ [], (vint w16 order ∷ [], (shr_slice_vals key, (shr_slice_vals block, tt)))))), tt)
+  abbrev to_opened : (Open 𝓛 at_mem run).Ghost
+  to_opened = (((κ₁, (κ₂, tt)), (s₁, (s₂, tt)), tt, (owner, (way, (order, (key, (block, tt))))), (vint w16 owner ∷ [], (vint w8 way ∷ [], (vint w16 order ∷ [], (shr_slice_vals key, (shr_slice_vals block, tt)))))), tt)
 
-  goes-opened : way < 2 ^ 8 → order < 2 ^ 16 → ent 𝓤 (⋆ 𝓛 (‵ (flft κ₁ s₁) ∷ ‵ (flft κ₂ s₂) ∷ ‵ key-owned ∷ ‵ block-owned ∷ [])) (sep 𝓤 ((Open 𝓛 at_mem run).pre to-opened) (sem 𝓛 (fsep key-owned block-owned)))
-  goes-opened low_fits few-fits =
+  goes_opened : way < 2 ^ 8 → order < 2 ^ 16 → ent 𝓤 (⋆ 𝓛 (‵ (flft κ₁ s₁) ∷ ‵ (flft κ₂ s₂) ∷ ‵ key-owned ∷ ‵ block-owned ∷ [])) (sep 𝓤 ((Open 𝓛 at_mem run).pre to_opened) (sem 𝓛 (fsep key-owned block-owned)))
+  goes_opened low_fits few-fits =
       qed 𝓛 (‵ (flft κ₁ s₁) ∷ ‵ (flft κ₂ s₂) ∷ ‵ key-owned ∷ ‵ block-owned ∷ []) ∵
       move ! (2 ∷ []) $ use1 𝓛 (‵ key-owned ⊛ ‵ key-owned) ((shr_slice_copy 𝓛 (named 1) κ₁ u8).twice key (shr_slice_vals key)) $ split ! $
       move ! (4 ∷ []) $ use1 𝓛 (‵ block-owned ⊛ ‵ block-owned) ((shr_slice_copy 𝓛 (named 2) κ₂ u8).twice block (shr_slice_vals block)) $ split ! $
@@ -136,9 +136,9 @@ module _ {M : Type 1} {𝓤 : Ura M} (𝓛 : Logic 𝓤) (at_mem : Memory → SP
   opened-typed : (v : Val) (l : Lane) → Opened v l → Holds (has_ty lane.ty v) × WT v
   opened-typed v l e = subst (λ (u : Val). Holds (has_ty lane.ty u) × WT u) (sym e.1) (lane.typed 𝓛 l e.2)
 
-  opened_it : (v : Val) → ent 𝓤 ((Open 𝓛 at_mem run).post to-opened v) (H.⇛ (ex 𝓤 (λ (l : Lane). guard 𝓤 (Opened v l) (sep 𝓤 (A.lft κ₁ s₁) (A.lft κ₂ s₂)))))
+  opened_it : (v : Val) → ent 𝓤 ((Open 𝓛 at_mem run).post to_opened v) (H.⇛ (ex 𝓤 (λ (l : Lane). guard 𝓤 (Opened v l) (sep 𝓤 (A.lft κ₁ s₁) (A.lft κ₂ s₂)))))
   opened_it v =
-      qed 𝓛 (raw ((Open 𝓛 at_mem run).post to-opened v) ∷ []) ∵ updating ! $
+      qed 𝓛 (raw ((Open 𝓛 at_mem run).post to_opened v) ∷ []) ∵ updating ! $
       use1 𝓛 (later (some (λ (l : Lane). ((‵ (flft κ₁ s₁) ⊛ ‵ (flft κ₂ s₂) ⊛ ‵ ftrue) ⊛ ‵ (R.own_val l (v ∷ [])))
       ⊛ some (λ (ws : Lasts opened.ended (κ₁, (κ₂, tt)) (owner, (way, (order, (key, (block, tt)))))). ‵ (lasts opened.ended (κ₁, (κ₂, tt)) (owner, (way, (order, (key, (block, tt))))) ws) ⊛ raw (fact 𝓤 (l ≡ opens owner way order key.now block.now)))))) (id⊢ 𝓤 _) $ await ! tt $ pick ! (λ l.
       split ! $ move ! (1 ∷ []) $ pick ! (λ ws. split ! $ move ! (1 ∷ []) $ heard ! (l ≡ opens owner way order key.now block.now) (λ right. move ! (1 ∷ []) $ split ! $ move ! (1 ∷ []) $
@@ -186,8 +186,8 @@ module _ {M : Type 1} {𝓤 : Ura M} (𝓛 : Logic 𝓤) (at_mem : Memory → SP
         assigns ! (un ! (var ! 39 refl) (record { fits = wide })) (from ! (stop !)) (store ! 21 refl (tt, record { fits = wide })) $ lets ! (un ! (var ! 35 refl) (record { fits = low_fits })) 9 refl (tt, record { fits = low_fits }) $ lets ! (un ! (var ! 33 refl) (record { fits = few-fits })) 7 refl (tt, record { fits = few-fits }) $
         -- a copy of the key and of the block is handed on
         move ! (46 ∷ 47 ∷ 48 ∷ 49 ∷ []) $
-        group ! 4 $ use1 𝓛 (raw ((Open 𝓛 at_mem run).pre to-opened) ⊛ ‵ (fsep key-owned block-owned)) (goes-opened low_fits few-fits) $ split ! $
-        calls_at ! fm (Open 𝓛 at_mem run) known-opened to-opened (and_then ! (var ! 39 refl) (and_then ! (var ! 11 refl) (and_then ! (var ! 9 refl) (and_then ! (var ! 33 refl) (and_then ! (var ! 31 refl) (no_more !)))))) (λ v.
+        group ! 4 $ use1 𝓛 (raw ((Open 𝓛 at_mem run).pre to_opened) ⊛ ‵ (fsep key-owned block-owned)) (goes_opened low_fits few-fits) $ split ! $
+        calls_at ! fm (Open 𝓛 at_mem run) known-opened to_opened (and_then ! (var ! 39 refl) (and_then ! (var ! 11 refl) (and_then ! (var ! 9 refl) (and_then ! (var ! 33 refl) (and_then ! (var ! 31 refl) (no_more !)))))) (λ v.
         use1 𝓛 (later (some (λ (l : Lane). given (Opened v l) (‵ (flft κ₁ s₁) ⊛ ‵ (flft κ₂ s₂))))) (opened_it v) $ await ! tt $ pick ! (λ l. learn ! (λ e. split ! $
         gets ! 14 refl (opened-typed v l e) $ rewrite ! 14 (λ (u : Val). ‵ (fat full_share lane.ty at.1.1.1.1.1.1.1.1.1.1.1.1.1.1.1.1.1.1.1.0 0 u)) e.1 refl $
         move ! (6 ∷ 7 ∷ []) $

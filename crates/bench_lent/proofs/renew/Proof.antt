@@ -62,12 +62,12 @@ module _ {M : Type 1} {𝓤 : Ura M} (𝓛 : Logic 𝓤) (C : Calls 𝓤 𝓛.H)
   same : length (set ys n new) ≡ length ys
   same = length-set ys n new
 
-  new-typed : Holds (has_ty lane.ty (lane.low l)) × WT (lane.low l)
-  new-typed = lane.typed 𝓛 l are.1.0
+  new_typed : Holds (has_ty lane.ty (lane.low l)) × WT (lane.low l)
+  new_typed = lane.typed 𝓛 l are.1.0
 
   -- the new record's fields are of their types, as those of the two are that it is made of
-  is-new : Is R old (vals old) → Is R new (vals new)
-  is-new was =
+  is_new : Is R old (vals old) → Is R new (vals new)
+  is_new was =
       let f = LL.owed L.the_type L'.the_laws l _ are.1.0 in
       let g = LL.owed L.the_type L'.the_laws old _ was in
       let is : Is R new (LL.vals L.the_type L'.the_laws new) = LL.owes L.the_type L'.the_laws new (f.0, (f.1.0, (g.1.1.0, (f.1.1.1.0, (g.1.1.1.1.0, (g.1.1.1.1.1.0, (f.1.1.1.1.1.1.0, tt))))))) in
@@ -85,19 +85,19 @@ module _ {M : Type 1} {𝓤 : Ura M} (𝓛 : Logic 𝓤) (C : Calls 𝓤 𝓛.H)
       -- each field but the owner, the order and the words: the pointer to the record, and a store through it
       lets ! (bin ! (var ! 16 refl) (lit ! tt) (record { fits = fits })) 12 refl (tt, record { fits = fits }) $ lets ! (bin ! (part ! 18 0 refl refl refl) (var ! 12 refl) tt) 10 refl (tt, tt) $
       rewrite ! 10 (λ (p : ℕ). ‵ (fat full_share ty_ptr at.1.1.1.1.1.0 0 (vptr b p))) (sym (place_is (mem R).size o n)) refl $
-      assigns ! (of_opd ! (part ! 14 0 refl refl refl)) (from ! (hop ! (look ! 10 refl) (fld ! refl (stop !)))) (store_in ! 0 (sub ! 0 refl (whole !)) (tt, new-typed.1.0)) $
+      assigns ! (of_opd ! (part ! 14 0 refl refl refl)) (from ! (hop ! (look ! 10 refl) (fld ! refl (stop !)))) (store_in ! 0 (sub ! 0 refl (whole !)) (tt, new_typed.1.0)) $
       assigns ! (bin ! (var ! 16 refl) (lit ! tt) (record { fits = fits })) (from ! (stop !)) (store ! 12 refl (tt, record { fits = fits })) $ lets ! (bin ! (part ! 18 0 refl refl refl) (var ! 12 refl) tt) 8 refl (tt, tt) $
       rewrite ! 8 (λ (p : ℕ). ‵ (fat full_share ty_ptr at.1.1.1.1.1.1.0 0 (vptr b p))) (sym (place_is (mem R).size o n)) refl $
-      assigns ! (of_opd ! (part ! 14 1 refl refl refl)) (from ! (hop ! (look ! 8 refl) (fld ! refl (stop !)))) (store_in ! 0 (sub ! 1 refl (whole !)) (tt, new-typed.1.1.0)) $
+      assigns ! (of_opd ! (part ! 14 1 refl refl refl)) (from ! (hop ! (look ! 8 refl) (fld ! refl (stop !)))) (store_in ! 0 (sub ! 1 refl (whole !)) (tt, new_typed.1.1.0)) $
       assigns ! (bin ! (var ! 16 refl) (lit ! tt) (record { fits = fits })) (from ! (stop !)) (store ! 12 refl (tt, record { fits = fits })) $ lets ! (bin ! (part ! 18 0 refl refl refl) (var ! 12 refl) tt) 6 refl (tt, tt) $
       rewrite ! 6 (λ (p : ℕ). ‵ (fat full_share ty_ptr at.1.1.1.1.1.1.1.0 0 (vptr b p))) (sym (place_is (mem R).size o n)) refl $
-      assigns ! (of_opd ! (part ! 14 3 refl refl refl)) (from ! (hop ! (look ! 6 refl) (fld ! refl (stop !)))) (store_in ! 0 (sub ! 3 refl (whole !)) (tt, new-typed.1.1.1.1.0)) $
+      assigns ! (of_opd ! (part ! 14 3 refl refl refl)) (from ! (hop ! (look ! 6 refl) (fld ! refl (stop !)))) (store_in ! 0 (sub ! 3 refl (whole !)) (tt, new_typed.1.1.1.1.0)) $
       assigns ! (bin ! (var ! 16 refl) (lit ! tt) (record { fits = fits })) (from ! (stop !)) (store ! 12 refl (tt, record { fits = fits })) $ lets ! (bin ! (part ! 18 0 refl refl refl) (var ! 12 refl) tt) 4 refl (tt, tt) $
       rewrite ! 4 (λ (p : ℕ). ‵ (fat full_share ty_ptr at.1.1.1.1.1.1.1.1.0 0 (vptr b p))) (sym (place_is (mem R).size o n)) refl $
-      assigns ! (of_opd ! (part ! 14 6 refl refl refl)) (from ! (hop ! (look ! 4 refl) (fld ! refl (stop !)))) (store_in ! 0 (sub ! 6 refl (whole !)) (tt, new-typed.1.1.1.1.1.1.1.0)) $
+      assigns ! (of_opd ! (part ! 14 6 refl refl refl)) (from ! (hop ! (look ! 4 refl) (fld ! refl (stop !)))) (store_in ! 0 (sub ! 6 refl (whole !)) (tt, new_typed.1.1.1.1.1.1.1.0)) $
       -- and it is put back
       use1 𝓛 (‵ (cell_at full_share R.mir (vals new) b (place (mem R).size o n))) (𝓛.laws.at_raw full_share lane.ty b (place (mem R).size o n) (lane.low new)) $ move ! (1 ∷ []) $ drop ! $
-      owned ! R (Is R) (lane.makes 𝓛) new _ (is-new was) $ move ! (1 ∷ 0 ∷ 2 ∷ []) $ elem_put ! R full_share ys n new (vals new) b o inside $
+      owned ! R (Is R) (lane.makes 𝓛) new _ (is_new was) $ move ! (1 ∷ 0 ∷ 2 ∷ []) $ elem_put ! R full_share ys n new (vals new) b o inside $
       closes ! tt b o (length ys) ys (set ys n new) same same room $
       lets ! (of_opd ! (unit_lit !)) 18 refl (tt, tt) $
       returns ! (look ! 18 refl) $

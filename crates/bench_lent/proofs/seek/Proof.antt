@@ -33,7 +33,7 @@ use Rattle.bench_turns.specs.Turning.{lane_at}
 use Rattle.bench_lent.specs.declared.Place.{Place}
 use Rattle.bench_lent.specs.contracts.Place as P
 use Rattle.bench_lent.proofs.Place.TheLaws as P'
-use Rattle.bench_lent.proofs.Searching.{Seeks, seeks-start, seeks_in, seeks-less, seeks-on, seeks-end}
+use Rattle.bench_lent.proofs.Searching.{Seeks, seeks-start, seeks_in, seeks-less, seeks_on, seeks-end}
 use Rattle.bench_lent.proofs.Walk.{Places, filled, allocated, freed}
 use Rattle.bench_lent.proofs.Plain.{Args, Valued}
 use Rattle.bench_lent.proofs.Records.{lane, place as place', vals, none}
@@ -69,12 +69,12 @@ module _ {M : Type 1} {𝓤 : Ura M} (𝓛 : Logic 𝓤) (𝓣 : Tables 𝓤 �
   abbrev start : Place
   start = record { at = from; left = lane_count }
 
-  is-start : Is place'.row start (place'.low start ∷ [])
+  is_start : Is place'.row start (place'.low start ∷ [])
   unfolding lane_count
-  is-start = LL.owes P.the_type P'.the_laws start ((refl, are.0.1), ((refl, omega arith), tt))
+  is_start = LL.owes P.the_type P'.the_laws start ((refl, are.0.1), ((refl, omega arith), tt))
 
-  at-fits : (x : State) → x.place.at < 2 ^ 64
-  at-fits x = x.valued.1.1.0.1
+  at_fits : (x : State) → x.place.at < 2 ^ 64
+  at_fits x = x.valued.1.1.0.1
 
   fm : FmC 𝓤 H 𝓛.laws 𝓣.C
   fm = fm_of 𝓤 H 𝓛.laws 𝓣
@@ -88,7 +88,7 @@ module _ {M : Type 1} {𝓤 : Ura M} (𝓛 : Logic 𝓤) (𝓣 : Tables 𝓤 �
       qed 𝓛 (‵ (held b o (length ys) κ γ ys) ∷ ‵ (flft κ s) ∷ []) ∵ enter ! 𝓣.C 𝓣.Λ code.function (mach b o (length ys) ∷ vint w64 from ∷ []) _ $ allocated ! (λ l.
       params1 ! $ pass1 ! (init ! 14 refl (tt, (tt, (record { fits = room.0 }, tt)))) $ pass1 ! (init ! 12 refl (tt, record { fits = are.0.1 })) $ pass0 ! $ move ! (18 ∷ 19 ∷ []) $
       opens ! tt b o (length ys) ys $
-      lets ! (agg ! (and_then ! (var ! 14 refl) (and_then ! (lit ! tt) (no_more !)))) 12 refl (place'.typed 𝓛 start is-start) $
+      lets ! (agg ! (and_then ! (var ! 14 refl) (and_then ! (lit ! tt) (no_more !)))) 12 refl (place'.typed 𝓛 start is_start) $
       looped ! 𝓣 (λ x. x.place.left) (Here l) (λ x Z again leave.
       lets ! (bin ! (lit ! tt) (part ! 12 1 refl refl refl) tt) 8 refl (tt, tt) $ whiled ! (var ! 8 refl)
       (λ more. let here : 0 < x.place.left = ltb→lt _ _ more in
@@ -104,14 +104,14 @@ module _ {M : Type 1} {𝓤 : Ura M} (𝓛 : Logic 𝓤) (𝓣 : Tables 𝓤 �
       lets ! (of_opd ! (var ! 2 refl)) 10 refl (lane.typed 𝓛 (lane_at ys x.place.at) is-l) $
       calls_last Passed 𝓛 (x.place, (lane_at ys x.place.at, tt)) ! fm known-passed (x.valued, (is-l, tt)) here (and_then ! (var ! 12 refl) (and_then ! (var ! 10 refl) (no_more !))) (λ r passes is.
       land_last ! (from_place ! (stop !)) (store ! 12 refl (place'.typed 𝓛 r is)) $ forget ! 10 refl $ forget ! 8 refl $ forget ! 6 refl $ forget ! 4 refl $ forget ! 2 refl $
-      again (record { place = r; valued = is; seeks = seeks-on ys from x.place here r x.seeks passes }) (seeks-less ys from x.place here (lane_at ys x.place.at) r passes))))
+      again (record { place = r; valued = is; seeks = seeks_on ys from x.place here r x.seeks passes }) (seeks-less ys from x.place here (lane_at ys x.place.at) r passes))))
       (λ over. leave _ (
       closes ! tt b o (length ys) ys ys refl refl room $
-      lets ! (of_opd ! (part ! 12 0 refl refl refl)) 18 refl (tt, record { fits = at-fits x }) $ returns ! (look ! 18 refl) $
+      lets ! (of_opd ! (part ! 12 0 refl refl refl)) 18 refl (tt, record { fits = at_fits x }) $ returns ! (look ! 18 refl) $
       -- the locals go
       forget ! 18 refl $ forget ! 16 refl $ forget ! 14 refl $ forget ! 12 refl $ forget ! 8 refl $ move ! (18 ∷ 19 ∷ 16 ∷ 17 ∷ 14 ∷ 15 ∷ 12 ∷ 13 ∷ 10 ∷ 11 ∷ 8 ∷ 9 ∷ 6 ∷ 7 ∷ 4 ∷ 5 ∷ 2 ∷ 3 ∷ []) $ freed ! $
-      by ! (leaves Seek 𝓛 κ s b o γ ys a are x.place.at ys (seeks-end ys from x.place (nltb→le _ _ over) x.seeks, refl) refl (refl, at-fits x)))))
-      (record { place = start; valued = is-start; seeks = seeks-start ys from start refl refl granted.1 }))
+      by ! (leaves Seek 𝓛 κ s b o γ ys a are x.place.at ys (seeks-end ys from x.place (nltb→le _ _ over) x.seeks, refl) refl (refl, at_fits x)))))
+      (record { place = start; valued = is_start; seeks = seeks-start ys from start refl refl granted.1 }))
 
 pub seek-spec : {M : Type 1} → stated.statement M
 unfolding code.routine tables_of

@@ -111,21 +111,21 @@ module _ {M : Type 1} {𝓤 : Ura M} (𝓛 : Logic 𝓤) (at_mem : Memory → SP
       move ! (1 ∷ 0 ∷ []) $ fjoin ! $ frame ! $ owned ! u32 (Is u32) (uint_Makes 𝓛 w32) c _ is $ done !
 
   -- what `yielded`'s triple binds outside, and what it leaves in the buffer
-  abbrev to-yielded : Lane → (Yield 𝓛 at_mem run).Ghost
-  to-yielded l = (((κ₁, tt), (s₁, tt), tt, (l, (out, tt)), (vals l, (mut_slice_vals out, tt))), tt)
+  abbrev to_yielded : Lane → (Yield 𝓛 at_mem run).Ghost
+  to_yielded l = (((κ₁, tt), (s₁, tt), tt, (l, (out, tt)), (vals l, (mut_slice_vals out, tt))), tt)
 
   abbrev bytes : Lane → List ℕ
   bytes l = yields l out.now
 
-  goes-yielded : (l : Lane) → Is R l (vals l) → ent 𝓤 (sep 𝓤 (A.lft κ₁ s₁) (sem 𝓛 out_owned)) ((Yield 𝓛 at_mem run).pre (to-yielded l))
-  goes-yielded l is =
+  goes_yielded : (l : Lane) → Is R l (vals l) → ent 𝓤 (sep 𝓤 (A.lft κ₁ s₁) (sem 𝓛 out_owned)) ((Yield 𝓛 at_mem run).pre (to_yielded l))
+  goes_yielded l is =
       qed 𝓛 (‵ (flft κ₁ s₁) ∷ ‵ out_owned ∷ []) ∵ nothing ! $ move ! (2 ∷ 0 ∷ []) $ fjoin ! $ owned ! R (Is R) (lane.makes 𝓛) l _ is $ fjoin ! $
       nothing ! $ move ! (2 ∷ 0 ∷ []) $ join ! $ join ! $ nothing ! $ move ! (1 ∷ 0 ∷ []) $ join ! $ done !
 
-  yielded_it : (l : Lane) (v : Val) → ent 𝓤 ((Yield 𝓛 at_mem run).post (to-yielded l) v)
+  yielded_it : (l : Lane) (v : Val) → ent 𝓤 ((Yield 𝓛 at_mem run).post (to_yielded l) v)
       (H.⇛ (guard 𝓤 (length (bytes l) ≡ length out.now) (sep 𝓤 (A.lft κ₁ s₁) (sep 𝓤 (sem 𝓛 (finally u8 out.ghost_name (bytes l))) (sem 𝓛 (unit.own_val tt (v ∷ [])))))))
   yielded_it l v =
-      qed 𝓛 (raw ((Yield 𝓛 at_mem run).post (to-yielded l) v) ∷ []) ∵ updating ! $
+      qed 𝓛 (raw ((Yield 𝓛 at_mem run).post (to_yielded l) v) ∷ []) ∵ updating ! $
       use1 𝓛 (later (some (λ (r : Unit {0}). ((‵ (flft κ₁ s₁) ⊛ ‵ ftrue) ⊛ ‵ (unit.own_val r (v ∷ [])))
       ⊛ some (λ (ws : Lasts yielded.ended (κ₁, tt) (l, (out, tt))). ‵ (lasts yielded.ended (κ₁, tt) (l, (out, tt)) ws) ⊛ raw (fact 𝓤 (ws.1.0 ≡ bytes l)))))) (id⊢ 𝓤 _) $ await ! tt $ pick ! (λ r.
       split ! $ move ! (1 ∷ []) $ pick ! (λ ws. split ! $ move ! (1 ∷ []) $ heard ! (ws.1.0 ≡ bytes l) (λ e.
@@ -171,8 +171,8 @@ module _ {M : Type 1} {𝓤 : Ura M} (𝓛 : Logic 𝓤) (at_mem : Memory → SP
         relent ! refl refl refl out-room.0 $
         -- the buffer is handed on for good
         move ! (46 ∷ 47 ∷ []) $
-        use2 𝓛 (raw ((Yield 𝓛 at_mem run).pre (to-yielded l))) (goes-yielded l is-l) $
-        calls_at ! fm (Yield 𝓛 at_mem run) known-yielded (to-yielded l) (and_then ! (var ! 29 refl) (and_then ! (var ! 3 refl) (no_more !))) (λ v.
+        use2 𝓛 (raw ((Yield 𝓛 at_mem run).pre (to_yielded l))) (goes_yielded l is-l) $
+        calls_at ! fm (Yield 𝓛 at_mem run) known-yielded (to_yielded l) (and_then ! (var ! 29 refl) (and_then ! (var ! 3 refl) (no_more !))) (λ v.
         use1 𝓛 (later (given (length (bytes l) ≡ length out.now) (‵ (flft κ₁ s₁) ⊛ ‵ (finally u8 out.ghost_name (bytes l)) ⊛ ‵ (unit.own_val tt (v ∷ []))))) (yielded_it l v) $ await ! tt $ learn ! (λ full. split3 ! $
         move ! (2 ∷ []) $ peeks ! unit (Is unit) (shows 𝓛 unit) tt (v ∷ []) (λ is-v. gets ! 21 refl ((Nothing-Lawful 𝓛).typed tt (v ∷ []) is-v).0 $ drop ! $ move ! (7 ∷ 16 ∷ 14 ∷ []) $
         relent ! refl refl refl room.0 $

@@ -76,11 +76,11 @@ module _ {M : Type 1} {𝓤 : Ura M} (𝓛 : Logic 𝓤) (𝓣 : Tables 𝓤 �
   Here l x = ‵ (held b o (length ys) κ γ x.zs) ∷ ‵ (flft κ s)
       ∷ filled 𝓤 (code.function).locals l (empty ∷ full (mach b o (length ys)) ∷ full (vint w32 last) ∷ full (vint w32 asked) ∷ empty ∷ full (run'.low x.run) ∷ []) []
 
-  is-told : (x : State) → Is turns.row x.run.told (turns.low x.run.told ∷ [])
-  is-told x = (LL.owed R'.the_type R''.the_laws x.run _ x.valued).0
+  is_told : (x : State) → Is turns.row x.run.told (turns.low x.run.told ∷ [])
+  is_told x = (LL.owed R'.the_type R''.the_laws x.run _ x.valued).0
 
   last_fits : (x : State) → x.run.told.last < 2 ^ 32
-  last_fits x = (is-told x).1.1.1.1.0.1
+  last_fits x = (is_told x).1.1.1.1.0.1
 
   few : (x : State) → 0 < x.run.left → x.run.told.made + x.run.left < 2 ^ 32
   few x more = omega (arith, way-count ys last asked x.zs x.run more x.way, are.1.0.1)
@@ -111,11 +111,11 @@ module _ {M : Type 1} {𝓤 : Ura M} (𝓛 : Logic 𝓤) (𝓣 : Tables 𝓤 �
       keep ! (0 ∷ 1 ∷ 4 ∷ 5 ∷ 3 ∷ 6 ∷ 7 ∷ 8 ∷ 9 ∷ 10 ∷ 11 ∷ 12 ∷ 13 ∷ 14 ∷ 15 ∷ 16 ∷ 17 ∷ 18 ∷ 19 ∷ 20 ∷ 21 ∷ 22 ∷ 2 ∷ 23 ∷ 24 ∷ 25 ∷ []) $
       again (record { run = r; valued = is; zs = zs; size = size; way = way_on ys last asked x.zs x.run here n zs r x.way turn.0 turn.1 goes }) (way-less ys last asked x.zs x.run here n r goes))))
       (λ over. leave _ (
-      lets ! (of_opd ! (part ! 14 0 refl refl refl)) 24 refl (turns.typed 𝓛 x.run.told (is-told x)) $ returns ! (look ! 24 refl) $
+      lets ! (of_opd ! (part ! 14 0 refl refl refl)) 24 refl (turns.typed 𝓛 x.run.told (is_told x)) $ returns ! (look ! 24 refl) $
       -- the locals go
       forget ! 24 refl $ forget ! 22 refl $ forget ! 20 refl $ forget ! 18 refl $ forget ! 14 refl $ forget ! 6 refl $
       move ! (24 ∷ 25 ∷ 22 ∷ 23 ∷ 20 ∷ 21 ∷ 18 ∷ 19 ∷ 16 ∷ 17 ∷ 14 ∷ 15 ∷ 12 ∷ 13 ∷ 10 ∷ 11 ∷ 8 ∷ 9 ∷ 6 ∷ 7 ∷ 4 ∷ 5 ∷ 2 ∷ 3 ∷ []) $ freed ! $
-      by ! (leaves Turn 𝓛 κ s b o γ ys a are x.run.told x.zs (way_end ys last asked x.zs x.run (nltb→le _ _ over) x.way) x.size (is-told x)))))
+      by ! (leaves Turn 𝓛 κ s b o γ ys a are x.run.told x.zs (way_end ys last asked x.zs x.run (nltb→le _ _ over) x.way) x.size (is_told x)))))
       (record { run = u; valued = is-u; zs = ys; size = refl; way = way-start ys last asked u sees.0.0 begins }))))
 
 pub turn_spec : {M : Type 1} → stated.statement M

@@ -26,7 +26,7 @@ use Rattle.lane_turns.proofs.served.Symbol.{name as #lane-turns·served}
 use Rattle.lane_turns.proofs.served.Met as served-thm
 use Rattle.bench_orders.specs.Orders.{lane_count}
 use Rattle.bench_turns.specs.Turning.{chosen}
-use Rattle.bench_turns.proofs.Seeking.{after-lt, chosen_is}
+use Rattle.bench_turns.proofs.Seeking.{after_lt, chosen_is}
 use Rattle.bench_turns.proofs.after.Symbol as after-def
 use Rattle.bench_turns.proofs.after.Symbol.{name as #bench-turns·after}
 use Rattle.bench_turns.proofs.after.Met as after-thm
@@ -74,7 +74,7 @@ module _ {M : Type 1} {𝓤 : Ura M} (𝓛 : Logic 𝓤) (C : Calls 𝓤 𝓛.H)
       lets ! (un ! (var ! 27 refl) (record { fits = wide })) 17 refl (tt, record { fits = wide }) $
       calls After 𝓛 (last, tt) ! fm known-after ((refl, wide), tt) tt (and_then ! (var ! 17 refl) (no_more !)) (λ i next is-i. gets ! 19 refl (tt, record { fits = is-i.1 }) $
       move ! (32 ∷ 33 ∷ []) $
-      calls_lending Seek 𝓛 κ s b o (length ys) γ ys (λ κs. (i, tt)) ! fm known-seek refl room (λ κs. (is-i, tt)) (λ κs. (many, subst (λ (k : ℕ). k < lane_count) (sym next) (after-lt last)))
+      calls_lending Seek 𝓛 κ s b o (length ys) γ ys (λ κs. (i, tt)) ! fm known-seek refl room (λ κs. (is-i, tt)) (λ κs. (many, subst (λ (k : ℕ). k < lane_count) (sym next) (after_lt last)))
       (λ α δ. and_then ! (var ! 4 refl) (and_then ! (var ! 21 refl) (no_more !))) (λ κs n zs found size is-n.
       unmoved ! b o (length ys) found.1 $ gets ! 27 refl (tt, record { fits = is-n.1 }) $
       let is-chosen : n ≡ chosen (bench_of ys last) = chosen_is (bench_of ys last) next found.0 in

@@ -10,9 +10,9 @@ returns : tie.Need-returns
 unfolding lane_count
 returns c = rw (le-ltb _ lane_count c.if1.true) (refl, refl)
 
-returns-2 : tie.Need-returns-2
+returns_2 : tie.Need-returns-2
 unfolding lane_count
-returns-2 c = rw (lt-ltb _ lane_count c.before.before.if1.false) (refl, refl)
+returns_2 c = rw (lt-ltb _ lane_count c.before.before.if1.false) (refl, refl)
 
 pub went-spec : {M : Type 1} → statement M
-went-spec = tie.close (tie.spec returns (λ c. search rules) (λ c. search rules) (λ c. search rules) returns-2)
+went-spec = tie.close (tie.spec returns (λ c. search rules) (λ c. search rules) (λ c. search rules) returns_2)

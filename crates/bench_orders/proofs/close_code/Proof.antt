@@ -8,9 +8,9 @@ returns : tie.Need-returns
 unfolding close_code
 returns c = rw (not-true c.before.args.sound c.if1.true)
 
-returns-2 : tie.Need-returns-2
+returns_2 : tie.Need-returns-2
 unfolding close_code lane_count
-returns-2 c = rw (not-false c.before.before.args.sound c.before.if1.false, le-ltb _ lane_count c.if2.true)
+returns_2 c = rw (not-false c.before.before.args.sound c.before.if1.false, le-ltb _ lane_count c.if2.true)
 
 returns-3 : tie.Need-returns-3
 unfolding close_code lane_count
@@ -25,4 +25,4 @@ returns-4 c =
     rw (not-false a.sound c.before.before.if1.false, lt-ltb _ lane_count c.before.if2.false, not-false a.admitted c.if3.false)
 
 pub close-code-spec : {M : Type 1} → statement M
-close-code-spec = tie.close (tie.spec returns returns-2 returns-3 returns-4)
+close-code-spec = tie.close (tie.spec returns returns_2 returns-3 returns-4)

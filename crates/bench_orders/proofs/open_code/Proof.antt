@@ -9,9 +9,9 @@ returns : tie.Need-returns
 unfolding open_code
 returns c = rw (not-true c.before.args.sound c.if1.true)
 
-returns-2 : tie.Need-returns-2
+returns_2 : tie.Need-returns-2
 unfolding open_code lane_count
-returns-2 c = rw (not-false c.before.before.args.sound c.before.if1.false, le-ltb _ lane_count c.if2.true)
+returns_2 c = rw (not-false c.before.before.args.sound c.before.if1.false, le-ltb _ lane_count c.if2.true)
 
 returns-3 : tie.Need-returns-3
 unfolding open_code lane_count
@@ -95,4 +95,4 @@ returns-9 c =
 pub open-code-spec : {M : Type 1} → statement M
 open-code-spec =
     tie.close
-    (tie.spec returns returns-2 returns-3 returns-4 (λ c. search rules) returns-5 returns-6 returns-7 returns-8 returns-9)
+    (tie.spec returns returns_2 returns-3 returns-4 (λ c. search rules) returns-5 returns-6 returns-7 returns-8 returns-9)

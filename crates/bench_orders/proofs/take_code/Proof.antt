@@ -8,9 +8,9 @@ returns : tie.Need-returns
 unfolding take_code
 returns c = rw (not-true c.before.args.sound c.if1.true)
 
-returns-2 : tie.Need-returns-2
+returns_2 : tie.Need-returns-2
 unfolding take_code lane_count
-returns-2 c = rw (not-false c.before.before.args.sound c.before.if1.false, le-ltb _ lane_count c.if2.true)
+returns_2 c = rw (not-false c.before.before.args.sound c.before.if1.false, le-ltb _ lane_count c.if2.true)
 
 returns-3 : tie.Need-returns-3
 unfolding take_code lane_count
@@ -40,4 +40,4 @@ returns-6 c =
     rw (not-false a.sound at.before.before.if1.false, lt-ltb _ lane_count at.before.if2.false, not-false a.admitted at.if3.false, c.before.if4.false, c.if5.false)
 
 pub take-code-spec : {M : Type 1} → statement M
-take-code-spec = tie.close (tie.spec returns returns-2 returns-3 returns-4 returns-5 returns-6)
+take-code-spec = tie.close (tie.spec returns returns_2 returns-3 returns-4 returns-5 returns-6)

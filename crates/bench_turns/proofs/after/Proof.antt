@@ -3,7 +3,7 @@ use mathlib.Core.Path.{sym}
 use native.Mathlib.Omega.{arith}
 use borrow.Author.Rules.{rules}
 use Rattle.bench_orders.specs.Orders.{lane_count}
-use Rattle.bench_turns.proofs.Seeking.{after_in, after-end}
+use Rattle.bench_turns.proofs.Seeking.{after_in, after_end}
 use Rattle.bench_turns.proofs.after.Statement.{statement}
 use Rattle.bench_turns.proofs.after.Tie as tie
 
@@ -11,9 +11,9 @@ returns : tie.Need-returns
 unfolding lane_count
 returns c = sym (after_in c.before.args.i (omega arith))
 
-returns-2 : tie.Need-returns-2
+returns_2 : tie.Need-returns-2
 unfolding lane_count
-returns-2 c = sym (after-end c.before.args.i (omega arith))
+returns_2 c = sym (after_end c.before.args.i (omega arith))
 
 pub after-spec : {M : Type 1} → statement M
-after-spec = tie.close (tie.spec (λ c. search rules) returns returns-2)
+after-spec = tie.close (tie.spec (λ c. search rules) returns returns_2)

@@ -7,7 +7,7 @@ use borrow.Author.Rules.{rules}
 use borrow.Author.Tests.{not-true, not-false}
 use Rattle.bench_orders.specs.Orders.{lane_count}
 use Rattle.bench_turns.specs.Sound.{all_sound}
-use Rattle.bench_turns.proofs.Soundness.{not-all, one_more, all_seen}
+use Rattle.bench_turns.proofs.Soundness.{not_all, one_more, all_seen}
 use Rattle.bench_turns.proofs.all_sound.Statement.{statement}
 use Rattle.bench_turns.proofs.all_sound.Tie as tie
 
@@ -34,7 +34,7 @@ unfolding lane_count
 returns c =
     let at = c.before.before.before.before in
     let long : length at.before.args.t1 ≡ lane_count = search rules in
-    not-all at.before.args.t1 at.loop.i at.loop.invariant.1 (omega arith) (sym c.before.sound-lane.ensures ∙ not-true _ c.if1.true)
+    not_all at.before.args.t1 at.loop.i at.loop.invariant.1 (omega arith) (sym c.before.sound-lane.ensures ∙ not-true _ c.if1.true)
 
 add-i : tie.Need-overflow-add-i invariant-loop decreases-loop
 add-i c = omega arith
@@ -50,9 +50,9 @@ loop-again c =
     let long : length at.before.args.t1 ≡ lane_count = search rules in
     (omega arith, one_more at.before.args.t1 at.loop.i at.loop.invariant.1 (omega arith) (sym c.before.sound-lane.ensures ∙ not-false _ c.if1.false))
 
-returns-2 : tie.Need-returns-2 invariant-loop decreases-loop
+returns_2 : tie.Need-returns-2 invariant-loop decreases-loop
 unfolding lane_count
-returns-2 c =
+returns_2 c =
     let at = c.before in
     let long : length at.before.args.t1 ≡ lane_count = search rules in
     all_seen at.before.args.t1 at.loop.i at.loop.invariant.1 (omega arith)
@@ -71,4 +71,4 @@ all-sound-spec =
     add-i
     loop-less
     loop-again
-    returns-2)
+    returns_2)

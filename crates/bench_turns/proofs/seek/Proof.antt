@@ -5,7 +5,7 @@ use native.Mathlib.Omega.{arith}
 use borrow.Author.Rules.{rules}
 use Rattle.bench_orders.specs.Orders.{lane_count}
 use Rattle.bench_turns.specs.Turning.{seek}
-use Rattle.bench_turns.proofs.Seeking.{after-lt, seek-here, seek-on, seek-over}
+use Rattle.bench_turns.proofs.Seeking.{after_lt, seek_here, seek_on, seek-over}
 use Rattle.bench_turns.proofs.seek.Statement.{statement}
 use Rattle.bench_turns.proofs.seek.Tie as tie
 
@@ -30,7 +30,7 @@ array-copy-out-l c = omega arith
 returns : tie.Need-returns invariant-loop decreases-loop
 returns c =
     let at = c.before.before.before.before in
-    sym (seek-here at.loop.left at.before.args.t1 at.loop.i c.before.before.before.loop-test.true c.if1.true) ∙ at.loop.invariant.2
+    sym (seek_here at.loop.left at.before.args.t1 at.loop.i c.before.before.before.loop-test.true c.if1.true) ∙ at.loop.invariant.2
 
 after-requires : tie.Need-after-requires invariant-loop decreases-loop
 after-requires c κs = search rules
@@ -44,15 +44,15 @@ loop-less c = omega arith
 loop-again : tie.Need-loop-preserved invariant-loop decreases-loop
 loop-again c =
     let at = c.before.before.before.before.before in (
-      rw c.after.ensures (after-lt at.loop.i),
+      rw c.after.ensures (after_lt at.loop.i),
       omega arith,
       ap (seek _ at.before.args.t1) c.after.ensures
-          ∙ sym (seek-on at.loop.left at.before.args.t1 at.loop.i c.before.before.before.before.loop-test.true c.before.if1.false) ∙ at.loop.invariant.2,
+          ∙ sym (seek_on at.loop.left at.before.args.t1 at.loop.i c.before.before.before.before.loop-test.true c.before.if1.false) ∙ at.loop.invariant.2,
     )
 
-returns-2 : tie.Need-returns-2 invariant-loop decreases-loop
+returns_2 : tie.Need-returns-2 invariant-loop decreases-loop
 unfolding lane_count
-returns-2 c =
+returns_2 c =
     let at = c.before in
     sym (seek-over at.loop.left at.before.args.t1 at.loop.i c.loop-test.false) ∙ at.loop.invariant.2
 
@@ -70,4 +70,4 @@ seek-spec =
     sub-left
     loop-less
     loop-again
-    returns-2)
+    returns_2)

@@ -17,12 +17,12 @@ returns c =
     let long : length b.lanes ≡ lane_count = search unmapped in
     rw (eq-eqb (length b.lanes) lane_count long, lt-ltb b.last lane_count (omega arith)) c.All-sound.ensures
 
-returns-2 : tie.Need-returns-2
+returns_2 : tie.Need-returns-2
 unfolding lane_count sound_bench
-returns-2 c =
+returns_2 c =
     let b = c.before.before.before.args.b in
     let long : length b.lanes ≡ lane_count = search unmapped in
     rw (eq-eqb (length b.lanes) lane_count long, le-ltb b.last lane_count (omega arith))
 
 pub sound-spec : {M : Type 1} → statement M
-sound-spec = tie.close (tie.spec (λ c. search rules) (λ c κs. search rules) returns returns-2)
+sound-spec = tie.close (tie.spec (λ c. search rules) (λ c κs. search rules) returns returns_2)

@@ -4,7 +4,7 @@ use native.Mathlib.Omega.{arith}
 use borrow.Author.Rules.{rules}
 use Rattle.bench_orders.specs.Orders.{lane_count}
 use Rattle.bench_turns.proofs.Made.{chosen_any, chosen_none}
-use Rattle.bench_turns.proofs.Rest.{Rest, rest_all, rest-one, rest-none, rest_over}
+use Rattle.bench_turns.proofs.Rest.{Rest, rest_all, rest_one, rest_none, rest_over}
 use Rattle.bench_turns.proofs.turns.Statement.{statement}
 use Rattle.bench_turns.proofs.turns.Tie as tie
 
@@ -24,7 +24,7 @@ returns : tie.Need-returns invariant-loop decreases-loop
 unfolding lane_count
 returns c =
     let at = c.before.before.before.before in
-    rest-none at.before.args.asked at.before.args.b at.loop.made at.loop.bench at.loop.invariant.1
+    rest_none at.before.args.asked at.before.args.b at.loop.made at.loop.bench at.loop.invariant.1
     (chosen_none at.loop.bench _ c.before.before.turn-once.ensures.0 c.if1.true) at.loop.invariant.0
 
 add-made : tie.Need-overflow-add-made invariant-loop decreases-loop
@@ -40,12 +40,12 @@ loop-again c =
     let one = c.before.before.before.turn-once in (
       omega arith,
       rw one.ensures.1
-          (rest-one at.before.args.asked at.before.args.b at.loop.made at.loop.bench at.loop.invariant.1
+          (rest_one at.before.args.asked at.before.args.b at.loop.made at.loop.bench at.loop.invariant.1
           (chosen_any at.loop.bench _ one.ensures.0 c.before.if1.false)),
     )
 
-returns-2 : tie.Need-returns-2 invariant-loop decreases-loop
-returns-2 c =
+returns_2 : tie.Need-returns-2 invariant-loop decreases-loop
+returns_2 c =
     let at = c.before in
     rest_over at.before.args.asked at.before.args.b at.loop.made at.loop.bench at.loop.invariant.1 (omega arith)
 
@@ -61,4 +61,4 @@ turns-spec =
     add-made
     loop-less
     loop-again
-    returns-2)
+    returns_2)

@@ -11,9 +11,9 @@ returns : tie.Need-returns
 unfolding good_value
 returns c = rw (c.before.if1.true, ne_eqb _ 1 c.if2.true)
 
-returns-2 : tie.Need-returns-2
+returns_2 : tie.Need-returns-2
 unfolding good_value
-returns-2 c = rw (c.before.before.if1.true, c.before.if2.false)
+returns_2 c = rw (c.before.before.if1.true, c.before.if2.false)
 
 returns-3 : tie.Need-returns-3
 unfolding good_value
@@ -27,4 +27,4 @@ returns-5 : tie.Need-returns-5
 returns-5 c = sym (no_value _ _ c.before.before.if1.false c.before.if3.false c.if4.false)
 
 pub good-value-spec : {M : Type 1} → statement M
-good-value-spec = tie.close (tie.spec returns (λ c. search rules) returns-2 returns-3 returns-4 returns-5)
+good-value-spec = tie.close (tie.spec returns (λ c. search rules) returns_2 returns-3 returns-4 returns-5)

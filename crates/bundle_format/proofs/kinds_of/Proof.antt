@@ -9,12 +9,12 @@ returns : tie.Need-returns
 unfolding kinds
 returns c = rw c.if1.true
 
-returns-2 : tie.Need-returns-2
+returns_2 : tie.Need-returns-2
 unfolding kinds
-returns-2 c = rw c.if2.true
+returns_2 c = rw c.if2.true
 
 returns-3 : tie.Need-returns-3
 returns-3 c = sym (kinds-last _ c.before.if1.false c.if2.false)
 
 pub kinds-of-spec : {M : Type 1} → statement M
-kinds-of-spec = tie.close (tie.spec returns returns-2 returns-3)
+kinds-of-spec = tie.close (tie.spec returns returns_2 returns-3)

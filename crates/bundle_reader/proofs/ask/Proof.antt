@@ -15,8 +15,8 @@ use Rattle.bundle_reader.proofs.ask.Tie as tie
 returns : tie.Need-returns
 returns c = record { is = c.before.before.read-code.ensures; leaves = c.only.ensures ∙ (refuses c.before.before.read-code.ensures c.before.if1.true).leaves }
 
-returns-2 : tie.Need-returns-2
-returns-2 c =
+returns_2 : tie.Need-returns-2
+returns_2 c =
     let a = c.before.before.before.before.before.before.args in
     let b : List ℕ = a.bundle.now in
     let r : Room b = room _ _ _ (sym c.before.before.before.read-code.ensures ∙ c.before.before.if1.false) in
@@ -39,4 +39,4 @@ ask-spec =
     (λ c κs. search rules)
     (λ c. search rules)
     tell-id-requires
-    returns-2)
+    returns_2)

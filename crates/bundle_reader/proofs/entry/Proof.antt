@@ -10,9 +10,9 @@ returns : tie.Need-returns
 unfolding entry_of
 returns c = rw (told-false c.before.before.answers-for.ensures c.before.if1.true) c.only.ensures
 
-returns-2 : tie.Need-returns-2
+returns_2 : tie.Need-returns-2
 unfolding entry_of
-returns-2 c = rw (told-true c.before.before.before.answers-for.ensures c.before.before.if1.false) c.tell-entry.ensures
+returns_2 c = rw (told-true c.before.before.before.answers-for.ensures c.before.before.if1.false) c.tell-entry.ensures
 
 pub entry_spec : {M : Type 1} → statement M
 entry_spec =
@@ -23,4 +23,4 @@ entry_spec =
     returns
     (λ c. search rules)
     (λ c κs. answers_fit _ _ (told-true c.before.before.answers-for.ensures c.before.if1.false))
-    returns-2)
+    returns_2)

@@ -10,8 +10,8 @@ use Rattle.bundle_reader.proofs.look_through.Tie as tie
 returns : tie.Need-returns
 returns c = opened-refused _ _ _ _ c.before.read-code.ensures c.if1.true
 
-returns-2 : tie.Need-returns-2
-returns-2 c = opened-done _ _ _ _ c.before.before.read-code.ensures c.before.if1.false _ (c.count_of.ensures ∙ count_in_lem _ (omega (arith, (room _ _ _ (sym c.before.before.read-code.ensures ∙ c.before.if1.false)).least)))
+returns_2 : tie.Need-returns-2
+returns_2 c = opened-done _ _ _ _ c.before.before.read-code.ensures c.before.if1.false _ (c.count_of.ensures ∙ count_in_lem _ (omega (arith, (room _ _ _ (sym c.before.before.read-code.ensures ∙ c.before.if1.false)).least)))
 
 pub look-through-spec : {M : Type 1} → statement M
 look-through-spec =
@@ -21,4 +21,4 @@ look-through-spec =
     returns
     (λ c κs. search rules)
     (λ c. omega (arith, (room _ _ _ (sym c.before.before.read-code.ensures ∙ c.before.if1.false)).most))
-    returns-2)
+    returns_2)

@@ -8,22 +8,22 @@ use lib.Seq.{drop-drop}
 use borrow.Author.Rules.{rules}
 use Rattle.bundle_format.specs.Reader.{row_of, tell}
 use Rattle.bundle_judge.proofs.Judging.{row_in_lem}
-use Rattle.bundle_reader.proofs.Steps.{entry-none, entry-there}
+use Rattle.bundle_reader.proofs.Steps.{entry_none, entry_there}
 use Rattle.bundle_reader.proofs.tell_entry.Statement.{statement}
 use Rattle.bundle_reader.proofs.tell_entry.Tie as tie
 
 returns : tie.Need-returns
 returns c =
     let a = c.before.before.before.args in
-    c.absent.ensures ∙ sym (entry-none a.reader a.count a.i (drop 8 a.b.now) c.before.if1.true)
+    c.absent.ensures ∙ sym (entry_none a.reader a.count a.i (drop 8 a.b.now) c.before.if1.true)
 
-returns-2 : tie.Need-returns-2
-returns-2 c =
+returns_2 : tie.Need-returns-2
+returns_2 c =
     let a = c.before.before.before.before.args in
     let b : List ℕ = a.b.now in
     c.tell-row.ensures
     ∙ ap (tell a.reader) (c.before.row_at.ensures ∙ row_in_lem _ b (omega arith) ∙ ap row_of (sym (drop-drop (12 * a.i) 8 b)))
-    ∙ sym (entry-there a.reader a.count a.i (drop 8 b) (omega arith))
+    ∙ sym (entry_there a.reader a.count a.i (drop 8 b) (omega arith))
 
 pub tell-entry-spec : {M : Type 1} → statement M
 tell-entry-spec =
@@ -35,4 +35,4 @@ tell-entry-spec =
     (λ c. search rules)
     (λ c κs. search rules)
     (λ c κs. search rules)
-    returns-2)
+    returns_2)

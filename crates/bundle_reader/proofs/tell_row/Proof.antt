@@ -9,9 +9,9 @@ returns : tie.Need-returns
 unfolding tell
 returns c = rw (told-false c.before.before.knows-kind.ensures c.before.if1.true) c.only.ensures
 
-returns-2 : tie.Need-returns-2
+returns_2 : tie.Need-returns-2
 unfolding tell
-returns-2 c = rw (told-true c.before.knows-kind.ensures c.if1.false)
+returns_2 c = rw (told-true c.before.knows-kind.ensures c.if1.false)
 
 pub tell-row-spec : {M : Type 1} → statement M
-tell-row-spec = tie.close (tie.spec (λ c κs. search rules) (λ c κs. search rules) returns returns-2)
+tell-row-spec = tie.close (tie.spec (λ c κs. search rules) (λ c κs. search rules) returns returns_2)

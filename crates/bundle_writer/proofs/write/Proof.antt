@@ -44,8 +44,8 @@ cast-t17 c =
     let r : Rows a.edition rows pool = good-rows a.edition rows pool passed.good in
     omega (arith, r.small)
 
-returns-2 : tie.Need-returns-2
-returns-2 c =
+returns_2 : tie.Need-returns-2
+returns_2 c =
     let a = c.before.before.before.before.before.before.before.before.before.before.args in
     let key : List ℕ = a.key.now in
     let rows : List ℕ = a.rows.now in
@@ -73,4 +73,4 @@ write_spec =
     (λ c. search rules)
     cast-t17
     (λ c. search rules)
-    returns-2)
+    returns_2)

@@ -15,9 +15,9 @@ returns : tie.Need-returns
 unfolding write_code
 returns c = rw (ne_eqb _ 16 c.if1.true)
 
-returns-2 : tie.Need-returns-2
+returns_2 : tie.Need-returns-2
 unfolding write_code
-returns-2 c = rw (eq-eqb _ 16 c.before.before.if1.false, told-false c.before.good-rows.ensures c.if2.true)
+returns_2 c = rw (eq-eqb _ 16 c.before.before.if1.false, told-false c.before.good-rows.ensures c.if2.true)
 
 returns-3 : tie.Need-returns-3
 unfolding write_code
@@ -45,7 +45,7 @@ write-code-spec =
     (tie.spec
     returns
     (λ c κs. search rules)
-    returns-2
+    returns_2
     (λ c. search rules)
     (λ c. search rules)
     (λ c. search rules)

@@ -6,7 +6,7 @@ use native.Mathlib.Omega.{arith}
 use lib.ListN.{length, take, drop, length-take, length-drop}
 use Rattle.gift128.specs.Calls.{encrypted_by}
 use Rattle.cmac_parts.specs.Standard.{◌⊕◌, before, blocks, chained}
-use Rattle.cmac.proofs.Chaining.{before-is, chained_more}
+use Rattle.cmac.proofs.Chaining.{before_is, chained_more}
 use Rattle.cmac.proofs.absorb_all.Statement.{statement}
 use Rattle.cmac.proofs.absorb_all.Tie as tie
 
@@ -47,7 +47,7 @@ loop-again c =
     let l = c.before.before.before.before.before.before.loop in
     let start = c.before.before.before.before.before.before.before.before.before.before in
     let bytes : List ℕ = start.args.bytes.now in
-    let last = before-is bytes in
+    let last = before_is bytes in
     let at = l.invariant.0 in (
       omega arith,
       omega arith,
@@ -61,7 +61,7 @@ returns c =
     let l = c.before.loop in
     let start = c.before.before.before.before.before in
     let bytes : List ℕ = start.args.bytes.now in
-    let last = before-is bytes in
+    let last = before_is bytes in
     let end : l.a / 16 ≡ before bytes = omega arith in
     (omega arith, l.invariant.4 ∙ ap (λ (n : ℕ). chained (encrypted_by start.args.words.now) start.args.chain.now (blocks n bytes)) end)
 

@@ -14,8 +14,8 @@ returns c = refuses c.before.key-code.ensures c.if1.true
 same-tags-requires : tie.Need-same-tags-requires
 same-tags-requires c κs = ((key-passed _ _ (sym c.before.before.before.before.before.key-code.ensures ∙ c.before.before.before.before.if1.false)).1, c.before.before.whole.auto.1.1.0)
 
-returns-2 : tie.Need-returns-2
-returns-2 c =
+returns_2 : tie.Need-returns-2
+returns_2 c =
     let a = c.before.before.before.before.before.before.before.before.before.before.args in
     let long = key-passed _ _ (sym c.before.before.before.before.before.before.key-code.ensures ∙ c.before.before.before.before.before.if1.false) in
     done c.before.before.before.before.before.before.key-code.ensures c.before.before.before.before.before.if1.false
@@ -31,4 +31,4 @@ check-spec =
     (λ c κs. search rules)
     (λ c. search rules)
     same-tags-requires
-    returns-2)
+    returns_2)

@@ -30,8 +30,8 @@ filled : (count : ℕ) (held bytes : List ℕ) → length held ≡ 16 → count 
 filled count held bytes len h more =
     length-append (take count held) (take (16 - count) bytes) ∙ ap₂ ◌+◌ (held-length count held len h) (length-take-le (16 - count) bytes (omega arith)) ∙ omega arith
 
-returns-2 : tie.Need-returns-2
-returns-2 c =
+returns_2 : tie.Need-returns-2
+returns_2 c =
     let start = c.before.before.before.before.before.before.before.before.before.before.before.before.before.before.before.before.before.before.before.before.before.before.before in
     let a = start.args in
     let ws : List ℕ = a.words.now in
@@ -70,4 +70,4 @@ feed-spec =
     (λ c κs. search rules)
     (λ c. search rules)
     (λ c. search rules)
-    returns-2)
+    returns_2)

@@ -5,9 +5,9 @@ use Prim.Native.Nat.{◌-◌, ◌≤◌}
 use native.Mathlib.Omega.{arith}
 use lib.ListN.{length, take}
 use borrow.Author.Rules.{rules}
-use Rattle.bits.proofs.Filling.{written, written-length, written-more, written_all}
+use Rattle.bits.proofs.Filling.{written, written-length, written_more, written_all}
 use Rattle.cmac.specs.Calls.{kept}
-use Rattle.cmac.proofs.Strings.{kept-length, kept-start, kept_byte}
+use Rattle.cmac.proofs.Strings.{kept_length, kept_start, kept_byte}
 use Rattle.cmac.proofs.hold.Statement.{statement}
 use Rattle.cmac.proofs.hold.Tie as tie
 
@@ -20,7 +20,7 @@ decreases-loop block₀ from bytes i₀ block i = 16 - i
 loop-holds : tie.Need-loop-init invariant-loop decreases-loop
 loop-holds c =
     let start = c.before.before in
-    (omega arith, omega arith, kept-start start.args.from start.args.block.now start.args.bytes.now start.requires.0 start.requires.1)
+    (omega arith, omega arith, kept_start start.args.from start.args.block.now start.args.bytes.now start.requires.0 start.requires.1)
 
 slice-write-block : tie.Need-slice-write-block invariant-loop decreases-loop
 slice-write-block c =
@@ -29,7 +29,7 @@ slice-write-block c =
     let a = start.args in
     let long : length l.block ≡ length a.block.now =
     written-length (kept (take a.from a.block.now ++ a.bytes.now)) a.block.now l.block l.i
-    (kept-length a.from a.block.now a.bytes.now start.requires.0 start.requires.1) (omega arith) l.invariant.2 in
+    (kept_length a.from a.block.now a.bytes.now start.requires.0 start.requires.1) (omega arith) l.invariant.2 in
     omega arith
 
 loop-again : tie.Need-loop-preserved invariant-loop decreases-loop
@@ -39,8 +39,8 @@ loop-again c =
     let a = start.args in (
       omega arith,
       omega arith,
-      written-more (kept (take a.from a.block.now ++ a.bytes.now)) a.block.now l.block l.i c.byte_at.result
-          (kept-length a.from a.block.now a.bytes.now start.requires.0 start.requires.1) (omega arith) l.invariant.2
+      written_more (kept (take a.from a.block.now ++ a.bytes.now)) a.block.now l.block l.i c.byte_at.result
+          (kept_length a.from a.block.now a.bytes.now start.requires.0 start.requires.1) (omega arith) l.invariant.2
           (c.byte_at.ensures ∙ kept_byte a.from a.block.now a.bytes.now start.requires.0 start.requires.1 l.i l.invariant.0),
     )
 
@@ -50,7 +50,7 @@ same_length c =
     let start = c.before.before.before.before in
     let a = start.args in
     written-length (kept (take a.from a.block.now ++ a.bytes.now)) a.block.now l.block l.i
-    (kept-length a.from a.block.now a.bytes.now start.requires.0 start.requires.1) (omega arith) l.invariant.2
+    (kept_length a.from a.block.now a.bytes.now start.requires.0 start.requires.1) (omega arith) l.invariant.2
 
 returns : tie.Need-returns invariant-loop decreases-loop
 returns c =
@@ -58,7 +58,7 @@ returns c =
     let start = c.before.before.before.before in
     let a = start.args in
     written_all (kept (take a.from a.block.now ++ a.bytes.now)) a.block.now l.block l.i
-    (kept-length a.from a.block.now a.bytes.now start.requires.0 start.requires.1) (omega arith) l.invariant.2
+    (kept_length a.from a.block.now a.bytes.now start.requires.0 start.requires.1) (omega arith) l.invariant.2
 
 pub hold-spec : {M : Type 1} → statement M
 hold-spec =

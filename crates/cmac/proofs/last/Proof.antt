@@ -4,7 +4,7 @@ use lib.ListN.{length}
 use borrow.Author.Rules.{rules}
 use Rattle.gift128.specs.Calls.{encrypted_by}
 use Rattle.cmac_parts.specs.Standard.{◌⊕◌}
-use Rattle.cmac.proofs.LastBlock.{length-zero_block, last-is}
+use Rattle.cmac.proofs.LastBlock.{length-zero_block, last_is}
 use Rattle.cmac.proofs.last.Statement.{statement}
 use Rattle.cmac.proofs.last.Tie as tie
 
@@ -15,7 +15,7 @@ returns : tie.Need-returns
 returns c =
     let start = c.before.before.before.before.before.before.before.before.before.before.before.before.before.before.before.before in
     c.before.before.mix.ensures ∙ ap₂ ◌⊕◌ c.before.before.before.before.before.before.before.before.before.before.before.last-key.ensures c.before.before.before.before.before.before.before.pad.ensures
-    ∙ last-is (encrypted_by start.args.words.now) start.args.held.now start.args.count start.requires.1.1.0 start.requires.1.1.1
+    ∙ last_is (encrypted_by start.args.words.now) start.args.held.now start.args.count start.requires.1.1.0 start.requires.1.1.1
 
 pub last-spec : {M : Type 1} → statement M
 last-spec =

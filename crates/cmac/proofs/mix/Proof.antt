@@ -5,7 +5,7 @@ use Prim.Native.Nat.{ℕ, ◌-◌, ◌≤◌}
 use native.Mathlib.Omega.{arith}
 use lib.Bits.{bit_xor}
 use lib.ListN.{length, get_or, length-set}
-use Rattle.bits.proofs.Filling.{written, written-more, written-here, written_all}
+use Rattle.bits.proofs.Filling.{written, written_more, written_here, written_all}
 use Rattle.cmac_parts.specs.Standard.{◌⊕◌}
 use Rattle.cmac_parts.proofs.Xored.{length-⊕, get_or_⊕}
 use Rattle.cmac.proofs.mix.Statement.{statement}
@@ -27,8 +27,8 @@ loop-again c =
     let x : List ℕ = start.args.block.now in
     let y : List ℕ = start.args.other.now in
     let even : length x ≡ length y = start.requires.0 ∙ sym start.requires.1 in
-    let next = written-more (x ⊕ y) x l.block l.i (bit_xor (get_or l.block l.i 0) (get_or y l.i 0)) (length-⊕ x y even) (omega arith) l.invariant.2
-    (ap (λ (b : ℕ). bit_xor b (get_or y l.i 0)) (written-here (x ⊕ y) x l.block l.i (length-⊕ x y even) (omega arith) l.invariant.2) ∙ sym (get_or_⊕ x y l.i even)) in
+    let next = written_more (x ⊕ y) x l.block l.i (bit_xor (get_or l.block l.i 0) (get_or y l.i 0)) (length-⊕ x y even) (omega arith) l.invariant.2
+    (ap (λ (b : ℕ). bit_xor b (get_or y l.i 0)) (written_here (x ⊕ y) x l.block l.i (length-⊕ x y even) (omega arith) l.invariant.2) ∙ sym (get_or_⊕ x y l.i even)) in
     (omega arith, simp length-set l.invariant.1, next)
 
 same_length : tie.Need-same-length invariant-loop decreases-loop

@@ -24,8 +24,8 @@ feed-requires c κs =
 cast-t20 : tie.Need-overflow-cast-t20
 cast-t20 c = omega (arith, c.before.before.feed.ensures.counts, past_short (held_by c.before.before.before.before.before.before.before.before.before.before.before.before.before.args.state ++ c.before.before.before.before.before.before.before.before.before.before.before.before.before.args.bytes.now))
 
-returns-2 : tie.Need-returns-2
-returns-2 c =
+returns_2 : tie.Need-returns-2
+returns_2 c =
     done c.before.before.before.before.before.before.before.before.before.before.before.piece-code.ensures c.before.before.before.before.before.before.before.before.before.before.if1.false (fed_by c.before.before.before.before.before.before.before.before.before.before.before.before.before.args.state c.before.before.before.before.before.before.before.before.before.before.before.before.before.args.bytes.now _ _ _ c.before.before.feed.ensures)
 
 pub piece-spec : {M : Type 1} → statement M
@@ -40,4 +40,4 @@ piece-spec =
     (λ c. search rules)
     feed-requires
     cast-t20
-    returns-2)
+    returns_2)

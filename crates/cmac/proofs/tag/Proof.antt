@@ -30,9 +30,9 @@ finish-requires c κs =
     let held : length c.before.before.before.before.before.before.before.before.before.before.before.before.before.before.before.args.state.held ≡ 16 = search rules in
     (words, (c.before.before.before.before.before.before.hold.auto.0 ∙ passed.1, (held, passed.0)))
 
-returns-2 : tie.Need-returns-2
+returns_2 : tie.Need-returns-2
 unfolding tag_of chained
-returns-2 c =
+returns_2 c =
     let s = c.before.before.before.before.before.before.before.before.before.before.before.before.before.before.before.before.before.before.before.args.state in
     let long : length s.chain ≡ 16 = search rules in
     done c.before.before.before.before.before.before.before.before.before.before.before.before.before.before.before.before.before.tag-code.ensures c.before.before.before.before.before.before.before.before.before.before.before.before.before.before.before.before.if1.false
@@ -52,4 +52,4 @@ tag-spec =
     (λ c. search rules)
     finish-requires
     (λ c. search rules)
-    returns-2)
+    returns_2)

@@ -4,7 +4,7 @@ use native.Mathlib.Omega.{arith}
 use borrow.Author.Rules.{rules}
 use borrow.Author.Tests.{eq-eqb, ne_eqb}
 use Rattle.bits.proofs.Computed.{cond-true, cond-false}
-use Rattle.cmac_parts.proofs.Subkeys.{subkey-is}
+use Rattle.cmac_parts.proofs.Subkeys.{subkey_is}
 use Rattle.cmac_parts.proofs.double.Statement.{statement}
 use Rattle.cmac_parts.proofs.double.Tie as tie
 
@@ -14,10 +14,10 @@ returns c = sym (cond-false _ _ _ (ne_eqb _ 16 c.if1.true))
 mul-block : tie.Need-overflow-mul-block
 mul-block c = omega (arith, (c.before.before.before.before.before.before.before.slice-known.given 0).fits)
 
-returns-2 : tie.Need-returns-2
-returns-2 c =
+returns_2 : tie.Need-returns-2
+returns_2 c =
     let start = c.before.before.before.before.before.before.before.before in
-    subkey-is start.args.block.now c.before.before.before.shift.new.0 c.before.before.before.before.before.before.if1.false (λ i. (c.before.before.before.before.before.before.before.slice-known.given i).fits) c.before.before.before.shift.ensures
+    subkey_is start.args.block.now c.before.before.before.shift.new.0 c.before.before.before.before.before.before.if1.false (λ i. (c.before.before.before.before.before.before.before.slice-known.given i).fits) c.before.before.before.shift.ensures
     ∙ sym (cond-true _ _ _ (eq-eqb _ 16 c.before.before.before.before.before.before.if1.false))
 
 pub double-spec : {M : Type 1} → statement M
@@ -31,4 +31,4 @@ double-spec =
     mul-block
     (λ c. search rules)
     (λ c. search rules)
-    returns-2)
+    returns_2)

@@ -8,9 +8,9 @@ returns : tie.Need-returns
 unfolding piece_code
 returns c = rw (lt-leb _ 16 c.if1.true)
 
-returns-2 : tie.Need-returns-2
+returns_2 : tie.Need-returns-2
 unfolding piece_code
-returns-2 c = rw (le-leb _ 16 c.if1.false)
+returns_2 c = rw (le-leb _ 16 c.if1.false)
 
 pub piece-code-spec : {M : Type 1} → statement M
-piece-code-spec = tie.close (tie.spec returns returns-2)
+piece-code-spec = tie.close (tie.spec returns returns_2)

@@ -6,9 +6,9 @@ use native.Mathlib.Numerals.{add-one}
 use native.Mathlib.Omega.{arith}
 use lib.ListN.{length, get_or, length-set}
 use borrow.Author.Rules.{rules}
-use Rattle.bits.proofs.Filling.{written, written-more, written-here, written-rest, written_all}
+use Rattle.bits.proofs.Filling.{written, written_more, written_here, written_rest, written_all}
 use Rattle.cmac_parts.specs.Inner.{shifted_bytes}
-use Rattle.cmac_parts.proofs.Subkeys.{length-shifted_bytes, get_or_shifted_bytes, shifted-is}
+use Rattle.cmac_parts.proofs.Subkeys.{length-shifted_bytes, get_or_shifted_bytes, shifted_is}
 use Rattle.cmac_parts.proofs.shift.Statement.{statement}
 use Rattle.cmac_parts.proofs.shift.Tie as tie
 
@@ -30,11 +30,11 @@ loop-again : tie.Need-loop-preserved invariant-loop decreases-loop
 loop-again c =
     let l = c.before.before.before.before.loop in
     let x : List ℕ = c.before.before.before.before.before.before.args.block.now in
-    let here : get_or l.block l.i 0 ≡ get_or x l.i 0 = written-here (shifted_bytes x) x l.block l.i (length-shifted_bytes x) (omega arith) l.invariant.2 in
-    let next : get_or l.block (l.i + 1) 0 ≡ get_or x (l.i + 1) 0 = written-rest (shifted_bytes x) x l.block l.i 1 (length-shifted_bytes x) (omega arith) l.invariant.2 in (
+    let here : get_or l.block l.i 0 ≡ get_or x l.i 0 = written_here (shifted_bytes x) x l.block l.i (length-shifted_bytes x) (omega arith) l.invariant.2 in
+    let next : get_or l.block (l.i + 1) 0 ≡ get_or x (l.i + 1) 0 = written_rest (shifted_bytes x) x l.block l.i 1 (length-shifted_bytes x) (omega arith) l.invariant.2 in (
       omega arith,
       simp length-set l.invariant.1,
-      written-more (shifted_bytes x) x l.block l.i (get_or l.block l.i 0 % 128 * 2 + c.before.byte_at.result / 128) (length-shifted_bytes x) (omega arith) l.invariant.2
+      written_more (shifted_bytes x) x l.block l.i (get_or l.block l.i 0 % 128 * 2 + c.before.byte_at.result / 128) (length-shifted_bytes x) (omega arith) l.invariant.2
           (ap₂ (λ (a b : ℕ). a % 128 * 2 + b / 128) here (c.before.byte_at.ensures ∙ next ∙ ap (λ (n : ℕ). get_or x n 0) (add-one l.i)) ∙ sym (get_or_shifted_bytes x l.i)),
     )
 
@@ -47,7 +47,7 @@ returns c =
     let start = c.before.before.before in
     let x : List ℕ = start.args.block.now in
     written_all (shifted_bytes x) x l.block l.i (length-shifted_bytes x) (omega arith) l.invariant.2
-    ∙ shifted-is x start.requires (λ i. (c.before.before.slice-known.given i).fits)
+    ∙ shifted_is x start.requires (λ i. (c.before.before.slice-known.given i).fits)
 
 pub shift-spec : {M : Type 1} → statement M
 shift-spec =

@@ -3,7 +3,7 @@ use mathlib.Core.Path.{◌≡◌, refl}
 use Prim.Native.Nat.{◌-◌, ◌≤◌}
 use native.Mathlib.Omega.{arith}
 use lib.ListN.{length, length-set}
-use Rattle.bits.proofs.Filling.{written, written-more, written_all}
+use Rattle.bits.proofs.Filling.{written, written_more, written_all}
 use Rattle.counter.proofs.copy.Statement.{statement}
 use Rattle.counter.proofs.copy.Tie as tie
 
@@ -21,7 +21,7 @@ loop-again c =
     let l = c.before.before.loop in
     let start = c.before.before.before in
     let a = start.args in
-    (omega arith, simp length-set l.invariant.1, written-more a.from.now a.to.now l.to l.i _ start.requires (omega arith) l.invariant.2 refl)
+    (omega arith, simp length-set l.invariant.1, written_more a.from.now a.to.now l.to l.i _ start.requires (omega arith) l.invariant.2 refl)
 
 returns : tie.Need-returns invariant-loop decreases-loop
 returns c =

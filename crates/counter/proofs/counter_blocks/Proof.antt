@@ -7,7 +7,7 @@ use lib.ListN.{length, take, drop, length-take, length-drop}
 use lib.Seq.{take_all}
 use borrow.Rule.Slice.PartMut.{same_len_mid}
 use Rattle.counter.specs.Standard.{key_blocks}
-use Rattle.counter.proofs.Blocks.{blocks-none, one_more}
+use Rattle.counter.proofs.Blocks.{blocks_none, one_more}
 use Rattle.counter.proofs.counter_blocks.Statement.{statement}
 use Rattle.counter.proofs.counter_blocks.Tie as tie
 
@@ -19,7 +19,7 @@ abbrev decreases-loop : tie.decreases-loop
 decreases-loop nonce counter blocks₀ a₀ blocks a = length blocks₀ - a
 
 loop-holds : tie.Need-loop-init invariant-loop decreases-loop
-loop-holds c = (refl, omega arith, refl, sym (blocks-none _ _ _))
+loop-holds c = (refl, omega arith, refl, sym (blocks_none _ _ _))
 
 sixteen : (a : ℕ) (l : List ℕ) → a + 16 ≤ length l → length (take (a + 16 - a) (drop a l)) ≡ 16
 sixteen a l h = simp (length-take, length-drop) (omega arith)

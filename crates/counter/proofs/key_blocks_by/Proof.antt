@@ -8,8 +8,8 @@ use lib.Seq.{take_all}
 use borrow.Rule.Slice.PartMut.{same_len_mid}
 use Rattle.gift128.specs.Calls.{encrypted_by}
 use Rattle.counter.specs.Standard.{key_blocks}
-use Rattle.counter.proofs.Blocks.{blocks-none}
-use Rattle.counter.proofs.Chunks.{first_of, some_of, in_front, encrypts-many, several-more}
+use Rattle.counter.proofs.Blocks.{blocks_none}
+use Rattle.counter.proofs.Chunks.{first_of, some_of, in_front, encrypts-many, several_more}
 use Rattle.counter.proofs.key_blocks_by.Statement.{statement}
 use Rattle.counter.proofs.key_blocks_by.Tie as tie
 
@@ -21,7 +21,7 @@ abbrev decreases-loop : tie.decreases-loop
 decreases-loop words nonce counter blocks₀ output₀ a₀ blocks output a = length output₀ - a
 
 loop-holds : tie.Need-loop-init invariant-loop decreases-loop
-loop-holds c = (refl, omega arith, c.before.before.before.before.requires.1.1.1.1, refl, refl, sym (blocks-none _ _ _))
+loop-holds c = (refl, omega arith, c.before.before.before.before.requires.1.1.1.1, refl, refl, sym (blocks_none _ _ _))
 
 at-once-requires : tie.Need-at-once-requires invariant-loop decreases-loop
 at-once-requires c κs =
@@ -62,7 +62,7 @@ loop-again c =
       q.invariant.2,
       same_len_mid here (here + n - here) q.output call.new.1.1.1.0 call.auto.1.1.1.0 ∙ q.invariant.3,
       same_len_mid 0 (n - 0) q.blocks counts.new.1.1.0 counts.auto.1.1.0 ∙ q.invariant.4,
-      several-more (encrypted_by a.words.now) a.nonce.now q.output (take (n - 0) _) call.new.1.1.1.0 _ a.counter here n start.requires.1.0 q.invariant.0 once.ensures.1 (omega arith)
+      several_more (encrypted_by a.words.now) a.nonce.now q.output (take (n - 0) _) call.new.1.1.1.0 _ a.counter here n start.requires.1.0 q.invariant.0 once.ensures.1 (omega arith)
           (call.auto.1.1.1.0 ∙ part) q.invariant.5
           (front ∙ counts.ensures ∙ ap (λ (k : ℕ). key_blocks (λ (t : List ℕ). t) a.nonce.now (a.counter + here / 16) (k / 16)) first)
           (encrypts-many a.words.now (take (n - 0) _) (take (here + n - here) (drop here q.output)) start.requires.0 (ap (λ (k : ℕ). k % 16) (ap length front ∙ long) ∙ once.ensures.1) (part ∙ sym (ap length front ∙ long)) call.ensures),

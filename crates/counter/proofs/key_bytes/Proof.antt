@@ -9,8 +9,8 @@ returns c =
     let a = c.before.before.before.before.before.before.before.before.before.before.before.args in
     key-few a.words.now a.nonce.now a.counter a.block.now a.unused a.output.now c.before.before.copy.new.1.0 c.before.before.before.before.before.before.if1.true c.before.before.copy.ensures
 
-returns-2 : tie.Need-returns-2
-returns-2 c =
+returns_2 : tie.Need-returns-2
+returns_2 c =
     let more = c.before.before.before.before in
     let a = more.before.before.before.before.before.before.before.before.args in
     key-many a.words.now a.nonce.now a.counter a.block.now a.unused _ _ _ more.before.before.before.if1.false more.more_bytes.ensures
@@ -31,4 +31,4 @@ key-bytes-spec =
     (λ c κs. search rules)
     (λ c. search rules)
     (λ c. search rules)
-    returns-2)
+    returns_2)

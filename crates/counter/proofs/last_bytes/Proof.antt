@@ -9,8 +9,8 @@ returns c =
     let a = c.before.before.before.before.before.args in
     last_none a.words.now a.nonce.now a.counter a.block.now a.output.now c.if1.true
 
-returns-2 : tie.Need-returns-2
-returns-2 c =
+returns_2 : tie.Need-returns-2
+returns_2 c =
     let made = c.before.before.before.before.before.before.before.before in
     let a = made.before.before.before.before.before.before.before.args in
     last_some a.words.now a.nonce.now a.counter a.block.now a.output.now made.key-block.new.1.1.1.0 c.before.before.copy.new.1.0
@@ -28,4 +28,4 @@ last-bytes-spec =
     (λ c κs. search rules)
     (λ c. search rules)
     (λ c. search rules)
-    returns-2)
+    returns_2)

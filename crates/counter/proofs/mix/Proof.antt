@@ -6,7 +6,7 @@ use native.Mathlib.Omega.{arith}
 use lib.Bits.{bit_xor}
 use lib.ListN.{length, get_or, length-set}
 use Rattle.counter.specs.Standard.{◌⊕◌}
-use Rattle.bits.proofs.Filling.{written, written-more, written-here, written_all}
+use Rattle.bits.proofs.Filling.{written, written_more, written_here, written_all}
 use Rattle.counter.proofs.Strings.{length-⊕, get_or_⊕}
 use Rattle.counter.proofs.mix.Statement.{statement}
 use Rattle.counter.proofs.mix.Tie as tie
@@ -27,10 +27,10 @@ loop-again c =
     let x : List ℕ = start.args.input.now in
     let y : List ℕ = start.args.output.now in
     let even : length x ≡ length y = start.requires in
-    let here = written-here (x ⊕ y) y l.output l.i (length-⊕ x y even) (omega arith) l.invariant.2 in (
+    let here = written_here (x ⊕ y) y l.output l.i (length-⊕ x y even) (omega arith) l.invariant.2 in (
       omega arith,
       simp length-set l.invariant.1,
-      written-more (x ⊕ y) y l.output l.i _ (length-⊕ x y even) (omega arith) l.invariant.2
+      written_more (x ⊕ y) y l.output l.i _ (length-⊕ x y even) (omega arith) l.invariant.2
           (ap (bit_xor (get_or x l.i 0)) here ∙ sym (get_or_⊕ x y l.i even)),
     )
 

@@ -7,8 +7,8 @@ use Rattle.counter.proofs.spent_at.Tie as tie
 returns : tie.Need-returns
 returns c = rw c.if1.true
 
-returns-2 : tie.Need-returns-2
-returns-2 c = rw (ne_eqb _ counters c.if1.false)
+returns_2 : tie.Need-returns-2
+returns_2 c = rw (ne_eqb _ counters c.if1.false)
 
 pub spent-at-spec : {M : Type 1} → statement M
-spent-at-spec = tie.close (tie.spec returns returns-2)
+spent-at-spec = tie.close (tie.spec returns returns_2)

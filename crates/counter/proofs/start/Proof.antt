@@ -21,9 +21,9 @@ copy-requires c κs =
     let at = c.before.before.before.before in
     (start-passed _ _ (sym at.before.start-code.ensures ∙ at.if1.false)).1
 
-returns-2 : tie.Need-returns-2
+returns_2 : tie.Need-returns-2
 unfolding started_by
-returns-2 c =
+returns_2 c =
     let at = c.before.before.before.before.before.before in
     let a = at.before.before.before.before.args in
     let key : List ℕ = a.key.now in
@@ -42,4 +42,4 @@ start_spec =
     (λ c κs. search rules)
     (λ c. search rules)
     copy-requires
-    returns-2)
+    returns_2)

@@ -7,8 +7,8 @@ use Rattle.counter_orders.proofs.counters_left.Tie as tie
 returns : tie.Need-returns
 returns c = rw (ne_eqb _ 0 c.if1.true)
 
-returns-2 : tie.Need-returns-2
-returns-2 c = rw c.if1.false
+returns_2 : tie.Need-returns-2
+returns_2 c = rw c.if1.false
 
 pub counters-left-spec : {M : Type 1} → statement M
-counters-left-spec = tie.close (tie.spec returns (λ c. search rules) returns-2)
+counters-left-spec = tie.close (tie.spec returns (λ c. search rules) returns_2)

@@ -10,9 +10,9 @@ returns : tie.Need-returns
 unfolding piece_code
 returns c = rw (lt-leb _ 15 c.if1.true)
 
-returns-2 : tie.Need-returns-2
+returns_2 : tie.Need-returns-2
 unfolding piece_code
-returns-2 c = rw (le-leb _ 15 c.before.if1.false, ne_eqb _ _ c.if2.true)
+returns_2 c = rw (le-leb _ 15 c.before.if1.false, ne_eqb _ _ c.if2.true)
 
 returns-3 : tie.Need-returns-3
 unfolding piece_code
@@ -25,4 +25,4 @@ returns-4 c =
     rw (le-leb _ 15 c.before.before.before.if1.false, eq-eqb _ _ c.before.before.if2.false, told-true c.before.has-enough.ensures c.if3.false)
 
 pub piece-code-spec : {M : Type 1} → statement M
-piece-code-spec = tie.close (tie.spec returns returns-2 (λ c κs. search rules) returns-3 returns-4)
+piece-code-spec = tie.close (tie.spec returns returns_2 (λ c κs. search rules) returns-3 returns-4)

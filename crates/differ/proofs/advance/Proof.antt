@@ -3,7 +3,7 @@ use mathlib.Core.Path.{◌∙◌}
 use native.Mathlib.Omega.{arith}
 use borrow.Author.Rules.{rules}
 use Rattle.differ.proofs.Tables.{look-told, within}
-use Rattle.differ.proofs.Stretches.{step-ends, step-on}
+use Rattle.differ.proofs.Stretches.{step-ends, step_on}
 use Rattle.differ.proofs.advance.Statement.{statement}
 use Rattle.differ.proofs.advance.Tie as tie
 
@@ -24,13 +24,13 @@ same-answer-requires c κs =
     let y = c.look2.ensures ∙ look-told a.two a.second.now s.requires.1.0 id in
     (rw x (within a.one a.first.now s.requires.0 id), rw y (within a.two a.second.now s.requires.1.0 id))
 
-returns-2 : tie.Need-returns-2
-returns-2 c =
+returns_2 : tie.Need-returns-2
+returns_2 c =
     let c4 = c.before.before.before.before in
     let s = c4.before.before.before.before.before in
     let a = s.args in
     let id = c4.least.result in
-    step-on a.first.now a.second.now a.low id c4.before.before.first-from.result c4.before.first-from2.result c4.before.before.first-from.ensures c4.before.first-from2.ensures c4.least.ensures
+    step_on a.first.now a.second.now a.low id c4.before.before.first-from.result c4.before.first-from2.result c4.before.before.first-from.ensures c4.before.first-from2.ensures c4.least.ensures
     c.before.before.before.if1.false c.before.before.look.result c.before.look2.result (c.before.before.look.ensures ∙ look-told a.one a.first.now s.requires.0 id)
     (c.before.look2.ensures ∙ look-told a.two a.second.now s.requires.1.0 id) c.same_answer.result c.same_answer.ensures
 
@@ -48,4 +48,4 @@ advance-spec =
     (λ c κs. search rules)
     same-answer-requires
     (λ c. search rules)
-    returns-2)
+    returns_2)

@@ -11,8 +11,8 @@ returns c =
     let a = c2.before.before.before.before.before.before.args in
     outcome_first a.key.now a.first.now a.second.now a.rows.now c2.before.open-2.result.code c2.open-22.result.code (code-told _ _ _ c2.before.open-2.ensures) (code-told _ _ _ c2.open-22.ensures) c.if1.true
 
-returns-2 : tie.Need-returns-2
-returns-2 c =
+returns_2 : tie.Need-returns-2
+returns_2 c =
     let c4 = c.before.before.before.before in
     let a = c4.before.before.before.before.before.before.args in
     outcome_second a.key.now a.first.now a.second.now a.rows.now c4.before.open-2.result.code c4.open-22.result.code (code-told _ _ _ c4.before.open-2.ensures) (code-told _ _ _ c4.open-22.ensures) c.before.before.if1.false c.if2.true
@@ -47,7 +47,7 @@ compare-spec =
     (λ c κs. search rules)
     (λ c κs. search rules)
     returns
-    returns-2
+    returns_2
     count-all-requires
     (λ c. search rules)
     (λ c. search rules)

@@ -3,8 +3,8 @@ use Prim.Native.Nat.{◌-◌, ◌≤◌}
 use native.Mathlib.Omega.{arith}
 use borrow.Author.Rules.{rules}
 use Rattle.differ.specs.Difference.{ids}
-use Rattle.differ.proofs.Stretches.{most-lines}
-use Rattle.differ.proofs.Rows.{one_line, no_line, Counts, counts_start, counts_end, counts-more, counts_fit}
+use Rattle.differ.proofs.Stretches.{most_lines}
+use Rattle.differ.proofs.Rows.{one_line, no_line, Counts, counts_start, counts_end, counts_more, counts_fit}
 use Rattle.differ.proofs.count_all.Statement.{statement}
 use Rattle.differ.proofs.count_all.Tie as tie
 
@@ -23,21 +23,21 @@ add-n c =
     let a = s.args in
     let l = c.before.before.before.loop in
     let r = c.before.advance in
-    omega (arith, counts_fit a.first.now a.second.now l.low l.n l.invariant.1 r.result r.ensures, one_line r.result c.if1.true, most-lines a.first.now a.second.now a.one a.two s.requires.0 s.requires.1 ids 0)
+    omega (arith, counts_fit a.first.now a.second.now l.low l.n l.invariant.1 r.result r.ensures, one_line r.result c.if1.true, most_lines a.first.now a.second.now a.one a.two s.requires.0 s.requires.1 ids 0)
 
 loop-again : tie.Need-loop-preserved invariant-loop decreases-loop
 loop-again c =
     let a = c.before.before.before.before.before.before.args in
     let l = c.before.before.before.loop in
     let r = c.before.advance in
-    (r.ensures.most, rw (one_line r.result c.if1.true) at (counts-more a.first.now a.second.now l.low l.n l.invariant.1 r.result r.ensures))
+    (r.ensures.most, rw (one_line r.result c.if1.true) at (counts_more a.first.now a.second.now l.low l.n l.invariant.1 r.result r.ensures))
 
 loop-again-2 : tie.Need-loop-preserved-2 invariant-loop decreases-loop
 loop-again-2 c =
     let a = c.before.before.before.before.before.before.args in
     let l = c.before.before.before.loop in
     let r = c.before.advance in
-    (r.ensures.most, λ m e. omega (arith, counts-more a.first.now a.second.now l.low l.n l.invariant.1 r.result r.ensures m e, no_line r.result c.if1.false))
+    (r.ensures.most, λ m e. omega (arith, counts_more a.first.now a.second.now l.low l.n l.invariant.1 r.result r.ensures m e, no_line r.result c.if1.false))
 
 returns : tie.Need-returns invariant-loop decreases-loop
 returns c =
@@ -45,7 +45,7 @@ returns c =
     let a = s.args in
     let l = c.before.loop in
     let e = counts_end a.first.now a.second.now l.low l.n l.invariant.1 (omega arith) in
-    (e, omega (arith, e, most-lines a.first.now a.second.now a.one a.two s.requires.0 s.requires.1 ids 0))
+    (e, omega (arith, e, most_lines a.first.now a.second.now a.one a.two s.requires.0 s.requires.1 ids 0))
 
 pub count-all-spec : {M : Type 1} → statement M
 count-all-spec =

@@ -17,8 +17,8 @@ part-put-line-end c =
     let a = c.before.before.before.before.before.args in
     omega (arith, one_line a.s (not-false _ c.before.before.if1.false))
 
-returns-2 : tie.Need-returns-2
-returns-2 c =
+returns_2 : tie.Need-returns-2
+returns_2 c =
     let s = c.before.before.before.before.before.before.before.before.before in
     let a = s.args in
     let e = not-false _ c.before.before.before.before.before.before.if1.false in
@@ -39,4 +39,4 @@ keep_spec =
     (λ c κs. search rules)
     (λ c. search rules)
     (λ c. search rules)
-    returns-2)
+    returns_2)

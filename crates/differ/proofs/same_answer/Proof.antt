@@ -14,9 +14,9 @@ returns : tie.Need-returns
 unfolding alike
 returns c = rw (ne_eqb _ _ c.if1.true)
 
-returns-2 : tie.Need-returns-2
+returns_2 : tie.Need-returns-2
 unfolding alike
-returns-2 c = rw (eq-eqb _ _ c.before.before.if1.false, ne_eqb _ 3 c.if2.true)
+returns_2 c = rw (eq-eqb _ _ c.before.before.if1.false, ne_eqb _ 3 c.if2.true)
 
 returns-3 : tie.Need-returns-3
 unfolding alike
@@ -39,7 +39,7 @@ same-answer-spec =
     tie.close
     (tie.spec
     returns
-    returns-2
+    returns_2
     returns-3
     (λ c. search rules)
     (λ c. search rules)

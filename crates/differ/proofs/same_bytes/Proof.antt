@@ -4,7 +4,7 @@ use Prim.Native.Nat.{◌-◌, ◌≤◌}
 use native.Mathlib.Omega.{arith}
 use lib.ListN.{length, drop}
 use Rattle.cmac.specs.Calls.{same}
-use Rattle.differ.proofs.Compared_bytes.{other_length, other_byte, same_byte, no_byte-left}
+use Rattle.differ.proofs.Compared_bytes.{other_length, other_byte, same_byte, no_byte_left}
 use Rattle.differ.proofs.same_bytes.Statement.{statement}
 use Rattle.differ.proofs.same_bytes.Tie as tie
 
@@ -17,8 +17,8 @@ decreases-loop a b i₀ i = length a - i
 returns : tie.Need-returns invariant-loop decreases-loop
 returns c = sym (other_length _ _ c.if1.true)
 
-returns-2 : tie.Need-returns-2 invariant-loop decreases-loop
-returns-2 c =
+returns_2 : tie.Need-returns-2 invariant-loop decreases-loop
+returns_2 c =
     let l = c.before.before.before.before.loop in
     sym (l.invariant.1 ∙ other_byte _ _ l.i (omega arith) (omega arith) c.if2.true)
 
@@ -30,7 +30,7 @@ loop-again c =
 returns-3 : tie.Need-returns-3 invariant-loop decreases-loop
 returns-3 c =
     let l = c.before.loop in
-    sym (l.invariant.1 ∙ no_byte-left _ _ l.i (omega arith) (omega arith))
+    sym (l.invariant.1 ∙ no_byte_left _ _ l.i (omega arith) (omega arith))
 
 pub same-bytes-spec : {M : Type 1} → statement M
 same-bytes-spec =
@@ -42,7 +42,7 @@ same-bytes-spec =
     (λ c. (omega arith, refl))
     (λ c. omega arith)
     (λ c. omega arith)
-    returns-2
+    returns_2
     (λ c. omega arith)
     (λ c. omega arith)
     loop-again

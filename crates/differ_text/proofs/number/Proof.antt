@@ -4,7 +4,7 @@ use Prim.Native.Nat.{ℕ, ◌+◌, ◌-◌, ◌*◌, ◌≤◌}
 use native.Mathlib.Omega.{arith}
 use lib.ListN.{take}
 use Rattle.published.specs.Bytes.{from_bytes}
-use Rattle.differ_text.proofs.Numbers.{next-byte, fits_more, first-eight}
+use Rattle.differ_text.proofs.Numbers.{next_byte, fits_more, first_eight}
 use Rattle.differ_text.proofs.number.Statement.{statement}
 use Rattle.differ_text.proofs.number.Tie as tie
 
@@ -38,13 +38,13 @@ loop-again c =
     let a = c.before.before.before.before.before.before.args in
     let l = c.before.before.before.loop in
     let e = c.before.before.before.before.least.ensures in
-    (omega arith, ap (λ (b : ℕ). l.n * 256 + b) c.wide.ensures ∙ next-byte a.body.now l.i l.n l.invariant.1 (omega arith))
+    (omega arith, ap (λ (b : ℕ). l.n * 256 + b) c.wide.ensures ∙ next_byte a.body.now l.i l.n l.invariant.1 (omega arith))
 
 returns : tie.Need-returns invariant-loop decreases-loop
 returns c =
     let a = c.before.before.before.before.args in
     let l = c.before.loop in
-    l.invariant.1 ∙ ap from_bytes (first-eight a.body.now l.i (omega (arith, c.before.before.least.ensures)))
+    l.invariant.1 ∙ ap from_bytes (first_eight a.body.now l.i (omega (arith, c.before.before.least.ensures)))
 
 pub number-spec : {M : Type 1} → statement M
 number-spec =

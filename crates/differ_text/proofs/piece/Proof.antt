@@ -9,9 +9,9 @@ returns : tie.Need-returns
 unfolding piece_of
 returns c = rw (ne_eqb _ 0 c.before.before.before.before.if1.true) c.before.before.put-refusals.ensures
 
-returns-2 : tie.Need-returns-2
+returns_2 : tie.Need-returns-2
 unfolding piece_of
-returns-2 c =
+returns_2 c =
     let c4 = c.before.before.before.before in
     rw (eq-eqb _ 0 c4.before.before.if1.false, ne_eqb _ 0 c4.if2.true) c.before.before.put-refusals2.ensures
 
@@ -36,7 +36,7 @@ piece-spec =
     returns
     (λ c κs. tt)
     (λ c. search rules)
-    returns-2
+    returns_2
     (λ c κs. tt)
     (λ c. search rules)
     returns-3

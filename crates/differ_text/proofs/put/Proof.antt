@@ -7,8 +7,8 @@ use Rattle.differ_text.proofs.put.Tie as tie
 returns : tie.Need-returns
 returns c l o lays = no_room l o _ _ lays _ c.if1.true
 
-returns-2 : tie.Need-returns-2
-returns-2 c l o lays = one_more l o _ _ lays _ c.if1.false
+returns_2 : tie.Need-returns-2
+returns_2 c l o lays = one_more l o _ _ lays _ c.if1.false
 
 pub put_spec : {M : Type 1} → statement M
-put_spec = tie.close (tie.spec returns (λ c. search rules) (λ c. search rules) (λ c. search rules) returns-2)
+put_spec = tie.close (tie.spec returns (λ c. search rules) (λ c. search rules) (λ c. search rules) returns_2)

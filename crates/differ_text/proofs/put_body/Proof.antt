@@ -9,7 +9,7 @@ use Rattle.text.proofs.Texts.{grows}
 use Rattle.differ_text.specs.Rendered.{escaped}
 use Rattle.differ_text.specs.Pieces.{Lays}
 use Rattle.differ_text.proofs.Laid.{laid_as}
-use Rattle.differ_text.proofs.Sides.{escaped-append, escaped-one}
+use Rattle.differ_text.proofs.Sides.{escaped-append, escaped_one}
 use Rattle.differ_text.proofs.put_body.Statement.{statement}
 use Rattle.differ_text.proofs.put_body.Tie as tie
 
@@ -33,7 +33,7 @@ loop-again c =
       p.auto.0 ∙ l.invariant.1,
       λ x o lays.
           laid_as _ o _ _ (p.ensures (x ++ escaped (take l.i body)) o (l.invariant.2 x o lays)) (x ++ escaped (take (l.i + 1) body))
-          (ap (λ (y : List ℕ). (x ++ escaped (take l.i body)) ++ y) (escaped-one (get_or body l.i 0)) ∙ grows escaped escaped-append x body l.i (omega arith)),
+          (ap (λ (y : List ℕ). (x ++ escaped (take l.i body)) ++ y) (escaped_one (get_or body l.i 0)) ∙ grows escaped escaped-append x body l.i (omega arith)),
     )
 
 returns : tie.Need-returns invariant-loop decreases-loop

@@ -14,8 +14,8 @@ returns c l o lays =
     let a = c4.before.before.before.args in
     laid_as _ o _ _ (c.before.before.put.ensures l o lays) _ (ap (λ (x : List ℕ). l ++ x) (plain_byte a.b (sym c4.before.is_plain.ensures ∙ c4.if1.true)))
 
-returns-2 : tie.Need-returns-2
-returns-2 c l o lays =
+returns_2 : tie.Need-returns-2
+returns_2 c l o lays =
     let c4 = c.before.before.before.before in
     let c8 = c4.before.before.before.before in
     let a = c8.before.before.before.args in
@@ -35,4 +35,4 @@ put-escaped-spec =
     (λ c κs. tt)
     (λ c κs. tt)
     (λ c. search rules)
-    returns-2)
+    returns_2)

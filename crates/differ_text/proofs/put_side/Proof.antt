@@ -21,9 +21,9 @@ returns c l o lays =
     (ap (λ (x : List ℕ). l ++ side_text (value t.kind x)) (clipped b t.at t.len c5.before.before.least.result c5.least2.result c5.before.before.least.ensures c5.least2.ensures)
     ∙ ap (λ (x : Answer). l ++ side_text x) (sym (value-meant b t c9.if1.true)))
 
-returns-2 : tie.Need-returns-2
+returns_2 : tie.Need-returns-2
 unfolding side_text
-returns-2 c l o lays =
+returns_2 c l o lays =
     let c5 = c.before.before.before.before.before in
     let a = c5.before.before.before.before.before.before.args in
     laid_as _ o _ _ (c.before.before.put_all_lem.ensures l o lays) _ (ap (λ (x : Answer). l ++ side_text x) (sym (unknown-meant a.bundle.now a.told c5.if2.true)))
@@ -60,7 +60,7 @@ put-side-spec =
     (λ c. search rules)
     (λ c κs. tt)
     (λ c. search rules)
-    returns-2
+    returns_2
     (λ c. search rules)
     (λ c κs. tt)
     (λ c. search rules)

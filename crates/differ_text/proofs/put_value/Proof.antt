@@ -18,8 +18,8 @@ returns c l o lays =
     laid_as _ o _ _ (c.before.before.put-decimal.ensures _ _ (c7.put_all_lem.ensures l o lays)) _
     (append_assoc l flag_word _ ∙ ap (λ (x : List ℕ). l ++ x) (flag_text a.kind n.result a.body.now n.ensures c10.if1.true))
 
-returns-2 : tie.Need-returns-2
-returns-2 c l o lays =
+returns_2 : tie.Need-returns-2
+returns_2 c l o lays =
     let c7 = c.before.before.before.before.before.before.before in
     let c10 = c7.before.before.before in
     let a = c10.before.before.before.before.args in
@@ -50,7 +50,7 @@ put-value-spec =
     (λ c κs. tt)
     (λ c κs. tt)
     (λ c. search rules)
-    returns-2
+    returns_2
     (λ c. search rules)
     (λ c κs. tt)
     (λ c κs. tt)

@@ -8,7 +8,7 @@ use lib.ListN.{get_or, drop}
 use borrow.Author.Rules.{part_to_end}
 use Rattle.quintuple.specs.Inner.{part_in}
 use Rattle.eight.specs.declared.Three.{Three}
-use Rattle.eight.proofs.Rounds.{Undone, undone-none, undone-more, undone-all}
+use Rattle.eight.proofs.Rounds.{Undone, undone_none, undone_more, undone_all}
 use Rattle.eight.proofs.decrypt_lanes.Statement.{statement}
 use Rattle.eight.proofs.decrypt_lanes.Tie as tie
 
@@ -22,7 +22,7 @@ loop-holds : tie.Need-loop-init invariant-loop decreases-loop
 loop-holds c =
     let a = c.before.before.before.before.args in
     let ws : List ℕ = a.rkey.now in
-    (refl, omega arith, undone-none ws a.s.x, undone-none ws a.s.y, λ on. undone-none ws a.s.z)
+    (refl, omega arith, undone_none ws a.s.x, undone_none ws a.s.y, λ on. undone_none ws a.s.z)
 
 loop-again : tie.Need-loop-preserved invariant-loop decreases-loop
 loop-again c =
@@ -37,9 +37,9 @@ loop-again c =
     let read : call.part_at.result ≡ part_in (drop (2 * (q.i - 5)) ws) (q.i - 5) = call.part_at.ensures ∙ ap (λ (l : List ℕ). part_in l (q.i - 5)) (part_to_end ws (2 * (q.i - 5))) in (
       omega arith,
       omega arith,
-      undone-more ws eighty words first.x q.x c.before.before.each-unround.result (q.i - 5) q.i (omega arith) q.invariant.1 (omega arith) call.part_at.result read c.before.before.each-unround.ensures q.invariant.2,
-      undone-more ws eighty words first.y q.y c.before.each-unround2.result (q.i - 5) q.i (omega arith) q.invariant.1 (omega arith) call.part_at.result read c.before.each-unround2.ensures q.invariant.3,
-      λ on. undone-more ws eighty words first.z q.z c.some-unround.result (q.i - 5) q.i (omega arith) q.invariant.1 (omega arith) call.part_at.result read (c.some-unround.ensures on) (q.invariant.4 on),
+      undone_more ws eighty words first.x q.x c.before.before.each-unround.result (q.i - 5) q.i (omega arith) q.invariant.1 (omega arith) call.part_at.result read c.before.before.each-unround.ensures q.invariant.2,
+      undone_more ws eighty words first.y q.y c.before.each-unround2.result (q.i - 5) q.i (omega arith) q.invariant.1 (omega arith) call.part_at.result read c.before.each-unround2.ensures q.invariant.3,
+      λ on. undone_more ws eighty words first.z q.z c.some-unround.result (q.i - 5) q.i (omega arith) q.invariant.1 (omega arith) call.part_at.result read (c.some-unround.ensures on) (q.invariant.4 on),
     )
 
 returns : tie.Need-returns invariant-loop decreases-loop
@@ -49,9 +49,9 @@ returns c =
     let ws : List ℕ = start.args.rkey.now in
     let end : q.i ≡ 0 = omega arith in
     record {
-      x_gone = undone-all ws start.requires start.args.s.x q.x q.i end q.invariant.2;
-      y_gone = undone-all ws start.requires start.args.s.y q.y q.i end q.invariant.3;
-      z_gone = λ on. undone-all ws start.requires start.args.s.z q.z q.i end (q.invariant.4 on);
+      x_gone = undone_all ws start.requires start.args.s.x q.x q.i end q.invariant.2;
+      y_gone = undone_all ws start.requires start.args.s.y q.y q.i end q.invariant.3;
+      z_gone = λ on. undone_all ws start.requires start.args.s.z q.z q.i end (q.invariant.4 on);
     }
 
 pub decrypt-lanes-spec : {M : Type 1} → statement M

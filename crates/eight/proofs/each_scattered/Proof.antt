@@ -5,7 +5,7 @@ use native.Mathlib.Omega.{arith}
 use lib.ListN.{length, length-set}
 use borrow.Author.Rules.{rules}
 use Rattle.eight.specs.Inner.{state_at, rewritten}
-use Rattle.eight.proofs.Loop.{Gone, gone-none, each_more}
+use Rattle.eight.proofs.Loop.{Gone, gone_none, each_more}
 use Rattle.eight.proofs.each_scattered.Statement.{statement}
 use Rattle.eight.proofs.each_scattered.Tie as tie
 
@@ -17,7 +17,7 @@ abbrev decreases-loop : tie.decreases-loop
 decreases-loop a₀ b₀ c₀ d₀ l₀ a b c d l = 4 - l
 
 loop-holds : tie.Need-loop-init invariant-loop decreases-loop
-loop-holds c = (omega arith, search rules, search rules, search rules, search rules, gone-none _ _ _ _ _)
+loop-holds c = (omega arith, search rules, search rules, search rules, search rules, gone_none _ _ _ _ _)
 
 loop-again : tie.Need-loop-preserved invariant-loop decreases-loop
 loop-again c =

@@ -8,7 +8,7 @@ use lib.ListN.{get_or, drop}
 use borrow.Author.Rules.{part_to_end}
 use Rattle.quintuple.specs.Inner.{part_in}
 use Rattle.eight.specs.declared.Three.{Three}
-use Rattle.eight.proofs.Rounds.{Left, left-none, left-more, left-all}
+use Rattle.eight.proofs.Rounds.{Left, left_none, left_more, left_all}
 use Rattle.eight.proofs.encrypt_lanes.Statement.{statement}
 use Rattle.eight.proofs.encrypt_lanes.Tie as tie
 
@@ -22,7 +22,7 @@ loop-holds : tie.Need-loop-init invariant-loop decreases-loop
 loop-holds c =
     let a = c.before.before.before.before.args in
     let ws : List ℕ = a.rkey.now in
-    (refl, omega arith, left-none ws a.s.x, left-none ws a.s.y, λ on. left-none ws a.s.z)
+    (refl, omega arith, left_none ws a.s.x, left_none ws a.s.y, λ on. left_none ws a.s.z)
 
 loop-again : tie.Need-loop-preserved invariant-loop decreases-loop
 loop-again c =
@@ -37,9 +37,9 @@ loop-again c =
     let read : call.part_at.result ≡ part_in (drop (2 * q.i) ws) q.i = call.part_at.ensures ∙ ap (λ (l : List ℕ). part_in l q.i) (part_to_end ws (2 * q.i)) in (
       omega arith,
       omega arith,
-      left-more ws eighty words first.x q.x c.before.before.each-round.result q.i q.invariant.0 (omega arith) call.part_at.result read c.before.before.each-round.ensures q.invariant.2,
-      left-more ws eighty words first.y q.y c.before.each-round2.result q.i q.invariant.0 (omega arith) call.part_at.result read c.before.each-round2.ensures q.invariant.3,
-      λ on. left-more ws eighty words first.z q.z c.some-round.result q.i q.invariant.0 (omega arith) call.part_at.result read (c.some-round.ensures on) (q.invariant.4 on),
+      left_more ws eighty words first.x q.x c.before.before.each-round.result q.i q.invariant.0 (omega arith) call.part_at.result read c.before.before.each-round.ensures q.invariant.2,
+      left_more ws eighty words first.y q.y c.before.each-round2.result q.i q.invariant.0 (omega arith) call.part_at.result read c.before.each-round2.ensures q.invariant.3,
+      λ on. left_more ws eighty words first.z q.z c.some-round.result q.i q.invariant.0 (omega arith) call.part_at.result read (c.some-round.ensures on) (q.invariant.4 on),
     )
 
 returns : tie.Need-returns invariant-loop decreases-loop
@@ -49,9 +49,9 @@ returns c =
     let ws : List ℕ = start.args.rkey.now in
     let end : q.i + 0 ≡ 40 = omega arith in
     record {
-      x_gone = left-all ws start.requires start.args.s.x q.x q.i end q.invariant.2;
-      y_gone = left-all ws start.requires start.args.s.y q.y q.i end q.invariant.3;
-      z_gone = λ on. left-all ws start.requires start.args.s.z q.z q.i end (q.invariant.4 on);
+      x_gone = left_all ws start.requires start.args.s.x q.x q.i end q.invariant.2;
+      y_gone = left_all ws start.requires start.args.s.y q.y q.i end q.invariant.3;
+      z_gone = λ on. left_all ws start.requires start.args.s.z q.z q.i end (q.invariant.4 on);
     }
 
 pub encrypt-lanes-spec : {M : Type 1} → statement M

@@ -7,7 +7,7 @@ use Rattle.published.proofs.Seen.{outward, read-number-words}
 use Rattle.primitives.specs.declared.State.{State}
 use Rattle.primitives.specs.Packed.{block_of, state_of}
 use Rattle.primitives.proofs.Blocks.{block_of_lt}
-use Rattle.eight.proofs.Turned.{swap_at, flip_at, middle_at, from_itself, from-flip, from-middle, from_cross, from-order}
+use Rattle.eight.proofs.Turned.{swap_at, flip_at, middle_at, from_itself, from_flip, from_middle, from_cross, from_order}
 use Rattle.eight.proofs.gather.Statement.{statement}
 use Rattle.eight.proofs.gather.Tie as tie
 
@@ -19,14 +19,14 @@ returns c =
     let c3 = c2.before in
     let c4 = c3.before in
     let s : State = c4.before.args.s in
-    let f0 = from-flip (λ p. p) s s (from_itself s) in
+    let f0 = from_flip (λ p. p) s s (from_itself s) in
     let f1 = from_cross 0x00ff00ff 8 tt tt _ s _ c4.cross.result f0 c4.cross.ensures in
     let f2 = from_cross 0x33333333 2 tt tt _ s _ c3.cross2.result f1 c3.cross2.ensures in
-    let f3 = from-middle _ s c3.cross2.result f2 in
+    let f3 = from_middle _ s c3.cross2.result f2 in
     let f4 = from_cross 0x0000ffff 16 tt tt _ s _ c2.cross3.result f3 c2.cross3.ensures in
     let f5 = from_cross 0x0f0f0f0f 4 tt tt _ s _ c1.cross4.result f4 c1.cross4.ensures in
     let f6 = from_cross 0x55555555 1 tt tt _ s _ c.cross5.result f5 c.cross5.ensures in
-    from-order outward
+    from_order outward
     (λ p. flip_at (swap_at 0x00ff00ff 8 (swap_at 0x33333333 2 (middle_at (swap_at 0x0000ffff 16 (swap_at 0x0f0f0f0f 4 (swap_at 0x55555555 1 p))))))) tt tt s c.cross5.result
     (omega (arith, c.cross5.type-inv)) f6
     ∙ ap state_of (sym (read-number-words (block_of s) (block_of_lt s)))

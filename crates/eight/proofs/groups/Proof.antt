@@ -13,11 +13,11 @@ use Rattle.bits.proofs.Computed.{cond-true, cond-false}
 use Rattle.published.specs.Blocks.{each_of}
 use Rattle.published.specs.Gift128.{rounds_all}
 use Rattle.published.specs.Seen.{is_order, seen}
-use Rattle.published.proofs.Many.{each_none, one-part}
-use Rattle.published.proofs.Groups.{all-written}
+use Rattle.published.proofs.Many.{each_none, one_part}
+use Rattle.published.proofs.Groups.{all_written}
 use Rattle.round_words.specs.Arranged.{pairs_from}
 use Rattle.eight.proofs.Answers.{grouped}
-use Rattle.eight.proofs.Parts.{part-more}
+use Rattle.eight.proofs.Parts.{part_more}
 use Rattle.eight.proofs.groups.Statement.{statement}
 use Rattle.eight.proofs.groups.Tie as tie
 
@@ -70,8 +70,8 @@ group-requires c κs =
     let g = here d in
     let q = d.before.before.loop in
     let input : List ℕ = d.before.before.before.before.before.before.before.before.args.input.now in
-    let part : length (take (q.a + d.width.result - q.a) (drop q.a input)) ≡ d.width.result = one-part d.width.result q.a input g.inside in
-    let part' : length (take (q.a + d.width.result - q.a) (drop q.a q.output)) ≡ d.width.result = one-part d.width.result q.a q.output (omega (arith, g.inside)) in
+    let part : length (take (q.a + d.width.result - q.a) (drop q.a input)) ≡ d.width.result = one_part d.width.result q.a input g.inside in
+    let part' : length (take (q.a + d.width.result - q.a) (drop q.a q.output)) ≡ d.width.result = one_part d.width.result q.a q.output (omega (arith, g.inside)) in
     (q.invariant.0, (q.invariant.1, ((rw part g.whole, rw part g.four, rw part g.twelve), part' ∙ sym part)))
 
 loop-again : tie.Need-loop-preserved invariant-loop decreases-loop
@@ -92,23 +92,23 @@ loop-again c =
       g.inside,
       g.leaves,
       same_len_mid q.a (q.a + w - q.a) q.output call.new.1.1.1.0 call.auto.1.1.1.0 ∙ q.invariant.7,
-      part-more (seen a.order (rounds_all a.back (pairs_from 0 a.rkey.now))) input q.output call.new.1.1.1.0 _ q.a w q.invariant.4 g.whole (omega arith) g.inside
-          (call.auto.1.1.1.0 ∙ one-part w q.a q.output room) q.invariant.8 call.ensures,
+      part_more (seen a.order (rounds_all a.back (pairs_from 0 a.rkey.now))) input q.output call.new.1.1.1.0 _ q.a w q.invariant.4 g.whole (omega arith) g.inside
+          (call.auto.1.1.1.0 ∙ one_part w q.a q.output room) q.invariant.8 call.ensures,
     )
 
 same_length : tie.Need-same-length invariant-loop decreases-loop
 same_length c = c.before.loop.invariant.7
 
-returns-2 : tie.Need-returns-2 invariant-loop decreases-loop
-returns-2 c =
+returns_2 : tie.Need-returns-2 invariant-loop decreases-loop
+returns_2 c =
     let q = c.before.loop in
     let at = c.before.before in
     let a = at.before.before.before.before.before.args in
-    all-written (seen a.order (rounds_all a.back (pairs_from 0 a.rkey.now))) a.input.now q.output q.a (omega arith) (omega arith) q.invariant.8
+    all_written (seen a.order (rounds_all a.back (pairs_from 0 a.rkey.now))) a.input.now q.output q.a (omega arith) (omega arith) q.invariant.8
     ∙ sym (cond-true _ _ _ (told-true at.before.in-groups.ensures at.if1.false))
 
 pub groups-spec : {M : Type 1} → statement M
 groups-spec =
     tie.close
     (tie.spec invariant-loop decreases-loop (λ c κs. tt) returns loop-holds (λ c. omega arith) (λ c κs. tt) (λ c. omega (arith, (here c).inside)) (λ c. omega arith) (λ c. omega arith) (λ c. omega (arith, (here c).inside)) (λ c. omega arith) (λ c. omega arith) (λ c. omega (arith, (here c.before).inside))
-    group-requires (λ c. omega (arith, (here c.before.before.before.before.before).four, (here c.before.before.before.before.before).inside)) loop-again same_length returns-2)
+    group-requires (λ c. omega (arith, (here c.before.before.before.before.before).four, (here c.before.before.before.before.before).inside)) loop-again same_length returns_2)

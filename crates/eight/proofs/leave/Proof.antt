@@ -9,11 +9,11 @@ use Rattle.eight.proofs.leave.Tie as tie
 returns : tie.Need-returns
 returns c = rw c.before.if1.true c.each-scattered.ensures
 
-returns-2 : tie.Need-returns-2
-returns-2 c =
+returns_2 : tie.Need-returns-2
+returns_2 c =
     let start = c.before in
     let one : start.args.order ≡ 1 = omega (arith, leb-true start.args.order 1 start.requires, c.if1.false) in
     rw one (record { lane = λ k h. refl })
 
 pub leave_spec : {M : Type 1} → statement M
-leave_spec = tie.close (tie.spec (λ c κs. search rules) returns returns-2)
+leave_spec = tie.close (tie.spec (λ c κs. search rules) returns returns_2)

@@ -9,12 +9,12 @@ use borrow.Author.Rules.{rules}
 use borrow.Rule.Slice.PartMut.{same_len_mid}
 use Rattle.published.specs.Blocks.{joined}
 use Rattle.published.specs.Seen.{write_in}
-use Rattle.published.proofs.Many.{one-part}
-use Rattle.published.proofs.Groups.{joined-none}
+use Rattle.published.proofs.Many.{one_part}
+use Rattle.published.proofs.Groups.{joined_none}
 use Rattle.primitives.specs.Packed.{block_of}
 use Rattle.packing.proofs.Inverse.{unpacked-block}
 use Rattle.eight.specs.Inner.{state_at, lane_at}
-use Rattle.eight.proofs.Bytes.{put-more}
+use Rattle.eight.proofs.Bytes.{put_more}
 use Rattle.eight.proofs.put.Statement.{statement}
 use Rattle.eight.proofs.put.Tie as tie
 
@@ -26,7 +26,7 @@ abbrev decreases-loop : tie.decreases-loop
 decreases-loop output₀ a b c d n₀ output n = 4 - n
 
 loop-holds : tie.Need-loop-init invariant-loop decreases-loop
-loop-holds c = (omega arith, search rules, search rules, search rules, search rules, search rules, sym (joined-none _))
+loop-holds c = (omega arith, search rules, search rules, search rules, search rules, search rules, sym (joined_none _))
 
 loop-again : tie.Need-loop-preserved invariant-loop decreases-loop
 loop-again c =
@@ -34,15 +34,15 @@ loop-again c =
     let q = c.before.before.before.before.before.loop in
     let room : 16 * q.n + 16 ≤ length q.output = omega arith in
     let part : ℕ = 16 * q.n in
-    let len : length call.new.1.0 ≡ 16 = call.auto.1.0 ∙ one-part 16 part q.output room in (
+    let len : length call.new.1.0 ≡ 16 = call.auto.1.0 ∙ one_part 16 part q.output room in (
       omega arith,
       q.invariant.1,
       q.invariant.2,
       q.invariant.3,
       q.invariant.4,
       same_len_mid part (part + 16 - part) q.output call.new.1.0 call.auto.1.0 ∙ q.invariant.5,
-      put-more _ q.output call.new.1.0 _ q.n (omega arith) len q.invariant.6
-          (call.ensures ∙ unpacked-block 1 _ _ refl (one-part 16 part q.output room)),
+      put_more _ q.output call.new.1.0 _ q.n (omega arith) len q.invariant.6
+          (call.ensures ∙ unpacked-block 1 _ _ refl (one_part 16 part q.output room)),
     )
 
 same_length : tie.Need-same-length invariant-loop decreases-loop

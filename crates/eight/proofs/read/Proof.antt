@@ -6,7 +6,7 @@ use native.Mathlib.Omega.{arith}
 use lib.ListN.{length, take, drop, length-set}
 use borrow.Author.Rules.{rules}
 use Rattle.packing.specs.Packing.{packed}
-use Rattle.eight.proofs.Loop.{Gone, gone-none, gone-more}
+use Rattle.eight.proofs.Loop.{Gone, gone_none, gone_more}
 use Rattle.eight.proofs.read.Statement.{statement}
 use Rattle.eight.proofs.read.Tie as tie
 
@@ -18,7 +18,7 @@ abbrev decreases-loop : tie.decreases-loop
 decreases-loop input a₀ b₀ c₀ d₀ l₀ a b c d l = 4 - l
 
 loop-holds : tie.Need-loop-init invariant-loop decreases-loop
-loop-holds c = (omega arith, search rules, search rules, search rules, search rules, gone-none _ _ _ _ _)
+loop-holds c = (omega arith, search rules, search rules, search rules, search rules, gone_none _ _ _ _ _)
 
 loop-again : tie.Need-loop-preserved invariant-loop decreases-loop
 loop-again c =
@@ -30,7 +30,7 @@ loop-again c =
       length-set q.b _ _ ∙ q.invariant.2,
       length-set q.c _ _ ∙ q.invariant.3,
       length-set q.d _ _ ∙ q.invariant.4,
-      gone-more (λ k. packed 1 (take 16 (drop (16 * k) input))) q.l _ _ _ _ q.a q.b q.c q.d c.packing-words.result (omega arith) (omega arith) (omega arith) (omega arith) q.invariant.5
+      gone_more (λ k. packed 1 (take 16 (drop (16 * k) input))) q.l _ _ _ _ q.a q.b q.c q.d c.packing-words.result (omega arith) (omega arith) (omega arith) (omega arith) q.invariant.5
           (c.packing-words.ensures ∙ ap (λ (n : ℕ). packed 1 (take n (drop (16 * q.l) input))) whole),
     )
 

@@ -7,7 +7,7 @@ use Rattle.published.proofs.Seen.{inward, read-words-number}
 use Rattle.primitives.specs.declared.State.{State}
 use Rattle.primitives.specs.Packed.{block_of, state_of}
 use Rattle.primitives.proofs.Blocks.{block_of_lt}
-use Rattle.eight.proofs.Turned.{swap_at, flip_at, middle_at, flipped, from_itself, from-flip, from-middle, from_cross, from-order}
+use Rattle.eight.proofs.Turned.{swap_at, flip_at, middle_at, flipped, from_itself, from_flip, from_middle, from_cross, from_order}
 use Rattle.eight.proofs.scatter.Statement.{statement}
 use Rattle.eight.proofs.scatter.Tie as tie
 
@@ -22,11 +22,11 @@ returns c =
     let f0 = from_cross 0x55555555 1 tt tt (λ p. p) s s c4.cross.result (from_itself s) c4.cross.ensures in
     let f1 = from_cross 0x0f0f0f0f 4 tt tt _ s _ c3.cross2.result f0 c3.cross2.ensures in
     let f2 = from_cross 0x0000ffff 16 tt tt _ s _ c2.cross3.result f1 c2.cross3.ensures in
-    let f3 = from-middle _ s c2.cross3.result f2 in
+    let f3 = from_middle _ s c2.cross3.result f2 in
     let f4 = from_cross 0x33333333 2 tt tt _ s _ c1.cross4.result f3 c1.cross4.ensures in
     let f5 = from_cross 0x00ff00ff 8 tt tt _ s _ c.cross5.result f4 c.cross5.ensures in
-    let f6 = from-flip _ s c.cross5.result f5 in
-    from-order inward
+    let f6 = from_flip _ s c.cross5.result f5 in
+    from_order inward
     (λ p. swap_at 0x55555555 1 (swap_at 0x0f0f0f0f 4 (swap_at 0x0000ffff 16 (middle_at (swap_at 0x33333333 2 (swap_at 0x00ff00ff 8 (flip_at p))))))) tt tt s (flipped c.cross5.result)
     (omega (arith, c.cross5.type-inv)) f6
     ∙ ap state_of (sym (read-words-number (block_of s) (block_of_lt s)))

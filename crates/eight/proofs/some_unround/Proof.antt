@@ -7,8 +7,8 @@ use Rattle.eight.proofs.some_unround.Tie as tie
 returns : tie.Need-returns
 returns c on = c.each-unround.ensures
 
-returns-2 : tie.Need-returns-2
-returns-2 c on = absurd (false≢true (sym c.if1.false ∙ on))
+returns_2 : tie.Need-returns-2
+returns_2 c on = absurd (false≢true (sym c.if1.false ∙ on))
 
 pub some-unround-spec : {M : Type 1} → statement M
-some-unround-spec = tie.close (tie.spec (λ c κs. tt) returns returns-2)
+some-unround-spec = tie.close (tie.spec (λ c κs. tt) returns returns_2)

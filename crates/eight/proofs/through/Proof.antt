@@ -6,8 +6,8 @@ use Rattle.eight.proofs.through.Tie as tie
 returns : tie.Need-returns
 returns c = rw c.before.if1.true c.decrypt-lanes.ensures
 
-returns-2 : tie.Need-returns-2
-returns-2 c = rw c.before.if1.false c.encrypt-lanes.ensures
+returns_2 : tie.Need-returns-2
+returns_2 c = rw c.before.if1.false c.encrypt-lanes.ensures
 
 pub through-spec : {M : Type 1} → statement M
-through-spec = tie.close (tie.spec (λ c κs. search rules) returns (λ c κs. search rules) returns-2)
+through-spec = tie.close (tie.spec (λ c κs. search rules) returns (λ c κs. search rules) returns_2)

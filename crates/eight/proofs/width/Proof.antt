@@ -8,8 +8,8 @@ use Rattle.eight.proofs.width.Tie as tie
 returns : tie.Need-returns
 returns c = sym (cond-true _ _ _ (le-leb _ 192 c.if1.true))
 
-returns-2 : tie.Need-returns-2
-returns-2 c = sym (cond-false _ _ _ (lt-leb _ 192 c.if1.false))
+returns_2 : tie.Need-returns-2
+returns_2 c = sym (cond-false _ _ _ (lt-leb _ 192 c.if1.false))
 
 pub width_spec : {M : Type 1} → statement M
-width_spec = tie.close (tie.spec returns returns-2)
+width_spec = tie.close (tie.spec returns returns_2)

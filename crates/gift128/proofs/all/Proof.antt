@@ -61,8 +61,8 @@ singles-requires-2 c κs =
     let left₁ : length (take (length out₁ - m) (drop m out₁)) ≡ length input - m = simp (length-take, length-drop) (omega arith) in
     (start.requires.0, (start.requires.1.0, (part_length input m (omega (arith, own.ensures.0)) whole, left₁ ∙ sym left)))
 
-returns-2 : tie.Need-returns-2
-returns-2 c =
+returns_2 : tie.Need-returns-2
+returns_2 c =
     let last = c.before.before.singles2 in
     let first = c.before.before.before.before.before.before.before.all-groups in
     let own = c.before.before.before.before.before.before.before.before.before.before.alone in
@@ -89,4 +89,4 @@ pub all-spec : {M : Type 1} → statement M
 all-spec =
     tie.close
     (tie.spec (λ c κs. search rules) (λ c. search rules) (λ c. search rules) (λ c κs. search rules) sub-m (λ c. search rules) (λ c. search rules) (λ c. omega arith) (λ c. search rules) (λ c. search rules) (λ c. omega arith)
-    (λ c κs. search rules) (λ c. omega arith) (λ c. omega arith) (λ c. search rules) sub-singles-2 part-singles-start-2 (λ c. search rules) singles-requires-2 (λ c. search rules) returns-2)
+    (λ c κs. search rules) (λ c. omega arith) (λ c. omega arith) (λ c. search rules) sub-singles-2 part-singles-start-2 (λ c. search rules) singles-requires-2 (λ c. search rules) returns_2)

@@ -7,8 +7,8 @@ use Rattle.gift128.proofs.alone.Tie as tie
 returns : tie.Need-returns
 returns c = (refl, λ h. omega (arith, c.if1.true))
 
-returns-2 : tie.Need-returns-2
-returns-2 c = (refl, λ h. omega arith)
+returns_2 : tie.Need-returns-2
+returns_2 c = (refl, λ h. omega arith)
 
 pub alone-spec : {M : Type 1} → statement M
-alone-spec = tie.close (tie.spec returns returns-2)
+alone-spec = tie.close (tie.spec returns returns_2)

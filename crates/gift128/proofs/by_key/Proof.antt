@@ -22,8 +22,8 @@ in-place-requires c κs =
     let o = order-passed _ _ (sym (at.before.in_order.ensures ∙ ap (order_code at.before.before.before.before.before.args.order) at.before.before.key-code.ensures) ∙ at.if1.false) in
     (o.0, (search rules, (key-passed _ _ o.1).1))
 
-returns-2 : tie.Need-returns-2
-returns-2 c =
+returns_2 : tie.Need-returns-2
+returns_2 c =
     let expanding = c.before.before.before.before.before.before in
     let at = expanding.before.before in
     let a = at.before.before.before.before.before.args in
@@ -44,4 +44,4 @@ by-key-spec =
     (λ c. search rules)
     in-place-requires
     (λ c. search rules)
-    returns-2)
+    returns_2)

@@ -19,11 +19,11 @@ in-place-requires c κs =
     let o = order-passed _ _ (sym (at.before.in_order.ensures ∙ ap (order_code a.order) at.before.before.words-code.ensures) ∙ at.if1.false) in
     (o.0, words-passed _ _ o.1)
 
-returns-2 : tie.Need-returns-2
-returns-2 c =
+returns_2 : tie.Need-returns-2
+returns_2 c =
     let at = c.before.before.before.before in
     let a = at.before.before.before.before.before.args in
     done (at.before.in_order.ensures ∙ ap (order_code a.order) at.before.before.words-code.ensures) at.if1.false c.before.before.in_place.ensures
 
 pub by-words-spec : {M : Type 1} → statement M
-by-words-spec = tie.close (tie.spec (λ c κs. search rules) (λ c κs. search rules) returns in-place-requires (λ c. search rules) returns-2)
+by-words-spec = tie.close (tie.spec (λ c κs. search rules) (λ c κs. search rules) returns in-place-requires (λ c. search rules) returns_2)

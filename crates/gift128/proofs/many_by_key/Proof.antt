@@ -23,8 +23,8 @@ all-requires c κs =
     let passed = many-passed 16 _ _ _ o.1 in
     (o.0, (search rules, (passed.1, passed.2)))
 
-returns-2 : tie.Need-returns-2
-returns-2 c =
+returns_2 : tie.Need-returns-2
+returns_2 c =
     let expanding = c.before.before.before.before.before.before in
     let at = expanding.before.before in
     let a = at.before.before.before.before.before.before.args in
@@ -47,4 +47,4 @@ many-by-key-spec =
     (λ c. search rules)
     all-requires
     (λ c. search rules)
-    returns-2)
+    returns_2)

@@ -17,11 +17,11 @@ all-requires c κs =
     let passed = many-words-passed _ _ _ o.1 in
     (o.0, (passed.0, (passed.1, passed.2)))
 
-returns-2 : tie.Need-returns-2
-returns-2 c =
+returns_2 : tie.Need-returns-2
+returns_2 c =
     let at = c.before.before.before.before in
     done (at.before.in_order.ensures ∙ ap (order_code at.before.before.before.before.before.before.args.order) at.before.before.many-words-code.ensures) at.if1.false c.before.before.all.ensures
 
 pub many-by-words-spec : {M : Type 1} → statement M
 many-by-words-spec =
-    tie.close (tie.spec (λ c κs. search rules) (λ c κs. search rules) returns all-requires (λ c. search rules) returns-2)
+    tie.close (tie.spec (λ c κs. search rules) (λ c κs. search rules) returns all-requires (λ c. search rules) returns_2)

@@ -12,16 +12,16 @@ use Rattle.published.proofs.Undone.{rounds-lt}
 use Rattle.published.proofs.Calls.{key-passed}
 use Rattle.quintuple.specs.Quintuple.{first_round}
 use Rattle.gift128.specs.Calls.{after_one}
-use Rattle.gift128.proofs.Blocks.{through, filled, first-of-key}
+use Rattle.gift128.proofs.Blocks.{through, filled, first_of_key}
 use Rattle.gift128.proofs.one_round.Statement.{statement}
 use Rattle.gift128.proofs.one_round.Tie as tie
 
 returns : tie.Need-returns
 returns c = refuses c.before.key-code.ensures c.if1.true
 
-returns-2 : tie.Need-returns-2
+returns_2 : tie.Need-returns-2
 unfolding after_one
-returns-2 c =
+returns_2 c =
     let once = c.before.before.before.before in
     let packs = once.before.before in
     let expanding = packs.before.before.before in
@@ -34,7 +34,7 @@ returns-2 c =
     done at.before.key-code.ensures at.if1.false
     (through 0 refl (rounds128 ps 0) packs.packing.result once.first_round.result block block _ (rounds-lt 128 1 width128 ps 0) passed.1
     (λ i. (at.before.before.slice-known.given i).fits) passed.1 packs.packing.ensures
-    (once.first_round.ensures ∙ ap (first_round packs.packing.result) (expanding.precompute_rkeys.ensures.leaves ∙ filled key passed.0) ∙ first-of-key key packs.packing.result)
+    (once.first_round.ensures ∙ ap (first_round packs.packing.result) (expanding.precompute_rkeys.ensures.leaves ∙ filled key passed.0) ∙ first_of_key key packs.packing.result)
     c.before.before.unpacking.ensures)
 
 pub one-round-spec : {M : Type 1} → statement M
@@ -50,4 +50,4 @@ one-round-spec =
     (λ c κs. search rules)
     (λ c κs. search rules)
     (λ c. search rules)
-    returns-2)
+    returns_2)

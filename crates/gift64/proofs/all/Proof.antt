@@ -6,9 +6,9 @@ use native.Mathlib.Omega.{arith}
 use lib.ListN.{length, take}
 use borrow.Rule.Slice.PartMut.{same_len_mid, put_mid}
 use Rattle.published.specs.Blocks.{each_of}
-use Rattle.published.proofs.Many.{each_none, one-part, one_more}
+use Rattle.published.proofs.Many.{each_none, one_part, one_more}
 use Rattle.gift64.specs.Inner.{crossed_by}
-use Rattle.gift64.proofs.Crossing.{all-written}
+use Rattle.gift64.proofs.Crossing.{all_written}
 use Rattle.gift64.proofs.all.Statement.{statement}
 use Rattle.gift64.proofs.all.Tie as tie
 
@@ -28,7 +28,7 @@ into-requires c κs =
     let start = c.before.before.before.before.before.before.before in
     let room : 8 * l.n + 8 ≤ length start.args.input.now = omega arith in
     let room' : 8 * l.n + 8 ≤ length l.output = omega arith in
-    (start.requires.0, (one-part 8 (8 * l.n) start.args.input.now room, one-part 8 (8 * l.n) l.output room'))
+    (start.requires.0, (one_part 8 (8 * l.n) start.args.input.now room, one_part 8 (8 * l.n) l.output room'))
 
 loop-again : tie.Need-loop-preserved invariant-loop decreases-loop
 loop-again c =
@@ -38,7 +38,7 @@ loop-again c =
     let input : List ℕ = start.args.input.now in
     let f : List ℕ → List ℕ = crossed_by start.args.back start.args.words.now in
     let room : 8 * l.n + 8 ≤ length l.output = omega arith in
-    let len : length call.new.1.1.0 ≡ 8 = call.auto.1.1.0 ∙ one-part 8 (8 * l.n) l.output room in
+    let len : length call.new.1.1.0 ≡ 8 = call.auto.1.1.0 ∙ one_part 8 (8 * l.n) l.output room in
     let next : 8 * (l.n + 1) ≡ 8 * l.n + 8 = omega arith in
     let more : suc l.n ≡ l.n + 1 = omega arith in (
       omega arith,
@@ -52,7 +52,7 @@ returns : tie.Need-returns invariant-loop decreases-loop
 returns c =
     let l = c.before.loop in
     let start = c.before.before.before.before.before in
-    all-written (crossed_by start.args.back start.args.words.now) start.args.input.now l.output l.n (omega arith) (omega arith) l.invariant.2
+    all_written (crossed_by start.args.back start.args.words.now) start.args.input.now l.output l.n (omega arith) (omega arith) l.invariant.2
 
 pub all-spec : {M : Type 1} → statement M
 all-spec =

@@ -5,17 +5,17 @@ use Prim.Native.Nat.{ℕ}
 use lib.ListN.{length}
 use borrow.Author.Rules.{rules}
 use Rattle.answers.proofs.Outcome.{refuses, done}
-use Rattle.published.proofs.Calls64.{key-passed-64}
+use Rattle.published.proofs.Calls64.{key_passed_64}
 use Rattle.gift64.proofs.Crossing.{crossing, crossed-key}
 use Rattle.gift64.proofs.by_key.Statement.{statement}
 use Rattle.gift64.proofs.by_key.Tie as tie
 
 -- past the refusals the key has 16 bytes and the block 8
 passed : (c : tie.Else1) → (length c.before.before.before.before.args.key.now ≡ 16) × (length c.before.before.before.before.args.block.now ≡ 8)
-passed c = key-passed-64 _ _ (sym c.before.key-code.ensures ∙ c.if1.false)
+passed c = key_passed_64 _ _ (sym c.before.key-code.ensures ∙ c.if1.false)
 
-returns-2 : tie.Need-returns-2
-returns-2 c =
+returns_2 : tie.Need-returns-2
+returns_2 c =
     let through = c.before.before.before.before in
     let packs = through.before.before in
     let expands = packs.before.before in
@@ -41,4 +41,4 @@ by-key-spec =
     (λ c κs. search rules)
     (λ c κs. search rules)
     (λ c. search rules)
-    returns-2)
+    returns_2)

@@ -21,8 +21,8 @@ passed c = many-passed 8 _ _ _ (sym c.before.many-code.ensures ∙ c.if1.false)
 all-requires : tie.Need-all-requires
 all-requires c κs = let at = c.before.before.before in (search rules, ((passed at).1, (passed at).2))
 
-returns-2 : tie.Need-returns-2
-returns-2 c =
+returns_2 : tie.Need-returns-2
+returns_2 c =
     let expands = c.before.before.before.before.before in
     let at = expands.before in
     let a = at.before.before.before.before.before.args in
@@ -40,4 +40,4 @@ many-by-key-spec =
     (λ c. search rules)
     all-requires
     (λ c. search rules)
-    returns-2)
+    returns_2)

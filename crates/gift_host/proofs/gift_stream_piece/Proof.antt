@@ -104,41 +104,41 @@ module _ {M : Type 1} {𝓤 : Ura M} (𝓛 : Logic 𝓤) (at_mem : Memory → SP
   Post = (walk_of 𝓛 gift-stream-piece.ended stayed (gift-stream-piece.clauses 𝓛 at_mem run)).post bound
 
   -- what `piece`'s triple binds outside
-  abbrev to-piece : (Piece 𝓛 at_mem run).Ghost
-  to-piece = (((κ₁, (κ₂, tt)), (s₁, (s₂, tt)), tt, (h, (input, (output, tt))), (vals h, (shr_slice_vals input, (shr_slice_vals output, tt)))), tt)
+  abbrev to_piece : (Piece 𝓛 at_mem run).Ghost
+  to_piece = (((κ₁, (κ₂, tt)), (s₁, (s₂, tt)), tt, (h, (input, (output, tt))), (vals h, (shr_slice_vals input, (shr_slice_vals output, tt)))), tt)
 
-  goes-piece : Is R h (vals h) → ent 𝓤 (⋆ 𝓛 (‵ (flft κ₁ s₁) ∷ ‵ (flft κ₂ s₂) ∷ ‵ in_owned ∷ ‵ out_owned ∷ [])) ((Piece 𝓛 at_mem run).pre to-piece)
-  goes-piece is =
+  goes_piece : Is R h (vals h) → ent 𝓤 (⋆ 𝓛 (‵ (flft κ₁ s₁) ∷ ‵ (flft κ₂ s₂) ∷ ‵ in_owned ∷ ‵ out_owned ∷ [])) ((Piece 𝓛 at_mem run).pre to_piece)
+  goes_piece is =
       qed 𝓛 (‵ (flft κ₁ s₁) ∷ ‵ (flft κ₂ s₂) ∷ ‵ in_owned ∷ ‵ out_owned ∷ []) ∵ nothing ! $ move ! (4 ∷ 0 ∷ []) $ fjoin ! $ move ! (3 ∷ 0 ∷ []) $ fjoin ! $ owned ! R (Is R) (stream.makes 𝓛) h _ is $ fjoin ! $
       nothing ! $ move ! (3 ∷ 0 ∷ []) $ join ! $ move ! (2 ∷ 0 ∷ []) $ join ! $ join ! $ nothing ! $ move ! (1 ∷ 0 ∷ []) $ join ! $ done !
 
   -- what it gives: a number and a stream, as their machine value, and bytes in the output
-  abbrev Given-back : Val → Fed → List ℕ → Type 0
-  Given-back v r bs = Feeds h input.now output.now r.code r.stream bs × (length bs ≡ length output.now) × (v ≡ answer.low r) × Is answer.row r (answer.low r ∷ [])
+  abbrev Given_back : Val → Fed → List ℕ → Type 0
+  Given_back v r bs = Feeds h input.now output.now r.code r.stream bs × (length bs ≡ length output.now) × (v ≡ answer.low r) × Is answer.row r (answer.low r ∷ [])
 
-  given_back : (v : Val) → ent 𝓤 ((Piece 𝓛 at_mem run).post to-piece v)
-      (H.⇛ (ex 𝓤 (λ (r : Fed). ex 𝓤 (λ (bs : List ℕ). guard 𝓤 (Given-back v r bs) (sep 𝓤 (A.lft κ₁ s₁) (sep 𝓤 (A.lft κ₂ s₂) (sem 𝓛 (finally u8 output.ghost_name bs))))))))
+  given_back : (v : Val) → ent 𝓤 ((Piece 𝓛 at_mem run).post to_piece v)
+      (H.⇛ (ex 𝓤 (λ (r : Fed). ex 𝓤 (λ (bs : List ℕ). guard 𝓤 (Given_back v r bs) (sep 𝓤 (A.lft κ₁ s₁) (sep 𝓤 (A.lft κ₂ s₂) (sem 𝓛 (finally u8 output.ghost_name bs))))))))
   given_back v =
-      qed 𝓛 (raw ((Piece 𝓛 at_mem run).post to-piece v) ∷ []) ∵ updating ! $
+      qed 𝓛 (raw ((Piece 𝓛 at_mem run).post to_piece v) ∷ []) ∵ updating ! $
       use1 𝓛 (later (some (λ (r : Fed). ((‵ (flft κ₁ s₁) ⊛ ‵ (flft κ₂ s₂) ⊛ ‵ ftrue) ⊛ ‵ (answer.row.own_val r (v ∷ [])))
       ⊛ some (λ (ws : Lasts piece.ended (κ₁, (κ₂, tt)) (h, (input, (output, tt)))). ‵ (lasts piece.ended (κ₁, (κ₂, tt)) (h, (input, (output, tt))) ws) ⊛ raw (fact 𝓤 (Feeds h input.now output.now r.code r.stream ws.1.1.0)))))) (id⊢ 𝓤 _) $ await ! tt $ pick ! (λ r.
       split ! $ move ! (1 ∷ []) $ pick ! (λ ws. split ! $ move ! (1 ∷ []) $ heard ! (Feeds h input.now output.now r.code r.stream ws.1.1.0) (λ right.
       fsplit ! $ drop ! $ fsplit ! $ drop ! $ fsplit ! $ fsplit ! $ move ! (1 ∷ []) $ feq_l ! (λ same. move ! (2 ∷ []) $ split ! $ move ! (1 ∷ []) $
       peeks ! answer.row (Is answer.row) (shows 𝓛 answer.row) r (v ∷ []) (λ is. let e : v ≡ answer.low r = ap only (answer.tells r (v ∷ []) is) in at_once ! $
-      show ! (λ (q : Fed). ex 𝓤 (λ (bs : List ℕ). guard 𝓤 (Given-back v q bs) (sep 𝓤 (A.lft κ₁ s₁) (sep 𝓤 (A.lft κ₂ s₂) (sem 𝓛 (finally u8 output.ghost_name bs)))))) r $
-      show ! (λ (bs : List ℕ). guard 𝓤 (Given-back v r bs) (sep 𝓤 (A.lft κ₁ s₁) (sep 𝓤 (A.lft κ₂ s₂) (sem 𝓛 (finally u8 output.ghost_name bs))))) ws.1.1.0 $
+      show ! (λ (q : Fed). ex 𝓤 (λ (bs : List ℕ). guard 𝓤 (Given_back v q bs) (sep 𝓤 (A.lft κ₁ s₁) (sep 𝓤 (A.lft κ₂ s₂) (sem 𝓛 (finally u8 output.ghost_name bs)))))) r $
+      show ! (λ (bs : List ℕ). guard 𝓤 (Given_back v r bs) (sep 𝓤 (A.lft κ₁ s₁) (sep 𝓤 (A.lft κ₂ s₂) (sem 𝓛 (finally u8 output.ghost_name bs))))) ws.1.1.0 $
       check ! (right, same, e, subst (λ (u : Val). Is answer.row r (u ∷ [])) e is) $
       move ! (1 ∷ []) $ split3 ! $ frame ! $ frame ! $ keep ! (2 ∷ []) $ done !)))))
 
-  module _ (v : Val) (r : Fed) (bs : List ℕ) (e : Given-back v r bs) where
+  module _ (v : Val) (r : Fed) (bs : List ℕ) (e : Given_back v r bs) where
     given-typed : Holds (has_ty answer.ty v) × WT v
     given-typed = subst (λ (u : Val). Holds (has_ty answer.ty u) × WT u) (sym e.2) (answer.typed 𝓛 r e.3)
 
     code_is : Is u32 r.code (vint w32 r.code ∷ [])
     code_is = (LL.owed F.the_type F'.the_laws r _ e.3).0
 
-    stream-is : Is R r.stream (vals r.stream)
-    stream-is = let is = (LL.owed F.the_type F'.the_laws r _ e.3).1.0 in subst (Is R r.stream) (stream.tells r.stream _ is) is
+    stream_is : Is R r.stream (vals r.stream)
+    stream_is = let is = (LL.owed F.the_type F'.the_laws r _ e.3).1.0 in subst (Is R r.stream) (stream.tells r.stream _ is) is
 
     exits : ent 𝓤 (⋆ 𝓛 (‵ (fobs γ (R.coded.code r.stream)) ∷ ‵ (fbor κ (Body (mem R) b o γ)) ∷ ‵ (flft κ s) ∷ ‵ (flft κ₁ s₁) ∷ ‵ (flft κ₂ s₂) ∷ ‵ (finally u8 output.ghost_name bs) ∷ [])) (Post (vint w32 r.code))
     exits =
@@ -168,13 +168,13 @@ module _ {M : Type 1} {𝓤 : Ura M} (𝓛 : Logic 𝓤) (at_mem : Memory → SP
         relent ! refl refl refl out-room.0 $
         -- it is handed on by value, and the two buffers for good
         move ! (22 ∷ 23 ∷ 21 ∷ 20 ∷ []) $
-        group ! 4 $ use1 𝓛 (raw ((Piece 𝓛 at_mem run).pre to-piece)) (goes-piece is) $
-        calls_at ! fm (Piece 𝓛 at_mem run) known to-piece (and_then ! (var ! 10 refl) (and_then ! (var ! 15 refl) (and_then ! (var ! 3 refl) (no_more !)))) (λ v.
-        use1 𝓛 (later (some (λ (r : Fed). some (λ (bs : List ℕ). given (Given-back v r bs) (‵ (flft κ₁ s₁) ⊛ ‵ (flft κ₂ s₂) ⊛ ‵ (finally u8 output.ghost_name bs)))))) (given_back v) $ await ! tt $ pick ! (λ r. pick ! (λ bs. learn ! (λ e. split3 ! $
+        group ! 4 $ use1 𝓛 (raw ((Piece 𝓛 at_mem run).pre to_piece)) (goes_piece is) $
+        calls_at ! fm (Piece 𝓛 at_mem run) known to_piece (and_then ! (var ! 10 refl) (and_then ! (var ! 15 refl) (and_then ! (var ! 3 refl) (no_more !)))) (λ v.
+        use1 𝓛 (later (some (λ (r : Fed). some (λ (bs : List ℕ). given (Given_back v r bs) (‵ (flft κ₁ s₁) ⊛ ‵ (flft κ₂ s₂) ⊛ ‵ (finally u8 output.ghost_name bs)))))) (given_back v) $ await ! tt $ pick ! (λ r. pick ! (λ bs. learn ! (λ e. split3 ! $
         gets ! 14 refl (given-typed v r bs e) $ rewrite ! 14 (λ (u : Val). ‵ (fat full_share answer.ty l.1.1.1.1.0 0 u)) e.2 refl $
         -- the stream that came back is put in its place, and the borrow closed
-        assigns ! (of_opd ! (part ! 14 1 refl refl refl)) (from ! (hop ! (look ! 19 refl) (stop !))) (store_raw ! 6 refl (stream.typed 𝓛 r.stream (stream-is v r bs e))) $
-        owned ! R (Is R) (stream.makes 𝓛) r.stream _ (stream-is v r bs e) $
+        assigns ! (of_opd ! (part ! 14 1 refl refl refl)) (from ! (hop ! (look ! 19 refl) (stop !))) (store_raw ! 6 refl (stream.typed 𝓛 r.stream (stream_is v r bs e))) $
+        owned ! R (Is R) (stream.makes 𝓛) r.stream _ (stream_is v r bs e) $
         move ! (7 ∷ 0 ∷ 8 ∷ 9 ∷ 10 ∷ []) $
         closes ! tt R r.stream (vals r.stream) b o $
         lets ! (of_opd ! (part ! 13 0 refl refl refl)) 20 refl (tt, record { fits = (code_is v r bs e).1 }) $ returns ! (look ! 20 refl) $
@@ -187,8 +187,8 @@ module _ {M : Type 1} {𝓤 : Ura M} (𝓛 : Logic 𝓤) (at_mem : Memory → SP
 module _ {M : Type 1} {𝓤 : Ura M} (𝓛 : Logic 𝓤) (at_mem : Memory → SProp 𝓤) (run : Routine → Fun 𝓤) (𝓣 : Tables 𝓤 𝓛.H) (known : Triple 𝓤 (𝓣.C #counter·piece) (Piece 𝓛 at_mem run)) where
   open 𝓛 use {H}
 
-  gift_stream-piece_walks : Walks 𝓛 gift-stream-piece.ended stayed (WpFn 𝓤 H 𝓣.C 𝓣.Λ code.function) (gift-stream-piece.clauses 𝓛 at_mem run)
-  gift_stream-piece_walks = walked 𝓛 gift-stream-piece.ended stayed (gift-stream-piece.clauses 𝓛 at_mem run) (WpFn 𝓤 H 𝓣.C 𝓣.Λ code.function)
+  gift_stream_piece_walks : Walks 𝓛 gift-stream-piece.ended stayed (WpFn 𝓤 H 𝓣.C 𝓣.Λ code.function) (gift-stream-piece.clauses 𝓛 at_mem run)
+  gift_stream_piece_walks = walked 𝓛 gift-stream-piece.ended stayed (gift-stream-piece.clauses 𝓛 at_mem run) (WpFn 𝓤 H 𝓣.C 𝓣.Λ code.function)
       (λ κs. (mut_vals, (shr_slice_vals, (mut_slice_vals, tt)))) (λ κs. (mut_Tells (named 0) κs.0 R, (shr_slice_Tells (named 1) κs.1.0 u8, (mut_slice_Tells (named 2) κs.1.1.0 u8, tt))))
       (λ κs ss bounds a g are. via 𝓤 _ (fst∗ 𝓤 _ (emp 𝓤))
       (walk 𝓛 at_mem run κs.0 κs.1.0 κs.1.1.0 ss.0 ss.1.0 ss.1.1.0 a.0.ref_ptr.0 a.0.ref_ptr.1 a.0.ghost_name a.0.now a.1.0 a.1.1.0 are.1.0.0.1 are.1.1.0.0.1
@@ -197,13 +197,13 @@ module _ {M : Type 1} {𝓤 : Ura M} (𝓛 : Logic 𝓤) (at_mem : Memory → SP
   goes : AllGo 𝓛 3 (gift-stream-piece.signature).params (gift-stream-piece.ended).kept stayed
   goes = (Goes-ref 𝓛 3 0 tt (plain (λ _. R)), (Goes-dropped 𝓛 3 (shr_slice_of (1 ∷ []) tt (plain (λ _. u8))) yes (λ κs x f. refl), (Goes-gave_slice 𝓛 3 2 tt (plain (λ _. u8)), tt)))
 
-  gift_stream-piece_meets : Meets 𝓛 gift-stream-piece.signature (WpFn 𝓤 H 𝓣.C 𝓣.Λ code.function) (gift-stream-piece.spec 𝓛 at_mem run)
-  gift_stream-piece_meets = walk_Meets 𝓛 gift-stream-piece.ended stayed goes (gift-stream-piece.clauses 𝓛 at_mem run) (WpFn 𝓤 H 𝓣.C 𝓣.Λ code.function) (WpFn-mono 𝓤 H 𝓛.laws 𝓣 code.function) gift_stream-piece_walks
+  gift_stream_piece_meets : Meets 𝓛 gift-stream-piece.signature (WpFn 𝓤 H 𝓣.C 𝓣.Λ code.function) (gift-stream-piece.spec 𝓛 at_mem run)
+  gift_stream_piece_meets = walk_Meets 𝓛 gift-stream-piece.ended stayed goes (gift-stream-piece.clauses 𝓛 at_mem run) (WpFn 𝓤 H 𝓣.C 𝓣.Λ code.function) (WpFn-mono 𝓤 H 𝓛.laws 𝓣 code.function) gift_stream_piece_walks
 
 pub gift-stream-piece-spec : {M : Type 1} → stated.statement M
 unfolding code.routine tables_of
 gift-stream-piece-spec 𝓤 𝓛 𝓜 𝓡 =
     entered 𝓤 𝓛.H (triple_of 𝓛 gift-stream-piece.signature (gift-stream-piece.spec 𝓛 𝓜.mem 𝓡.run))
     (tables 𝓤 𝓛.H 𝓜 𝓡 code.env).C (tables 𝓤 𝓛.H 𝓜 𝓡 code.env).Λ #gift-host·gift-stream-piece code.function (code.unfolded 𝓤 𝓛.H 𝓜 𝓡)
-    (gift_stream-piece_meets 𝓛 𝓜.mem 𝓡.run (tables_of 𝓤 𝓛.H 𝓜 (tables 𝓤 𝓛.H 𝓜 𝓡 code.env))
+    (gift_stream_piece_meets 𝓛 𝓜.mem 𝓡.run (tables_of 𝓤 𝓛.H 𝓜 (tables 𝓤 𝓛.H 𝓜 𝓡 code.env))
     (cited 𝓤 𝓛.H (Piece 𝓛 𝓜.mem 𝓡.run) 𝓜 𝓡 code.env #counter·piece piece-def.routine code.calls-counter::piece (piece-thm.met 𝓤 𝓛 𝓜 𝓡)))

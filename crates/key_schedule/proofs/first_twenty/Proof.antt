@@ -21,14 +21,14 @@ record Side (x a b : ℕ) : Type 0 where
   high_fits : b < 2 ^ 32
 
 module _ {x a b : ℕ} (s : Side x a b) where
-  low-is : low_of x ≡ a
-  low-is = ap low_of s.is ∙ low-joined a b s.low_fits
+  low_is : low_of x ≡ a
+  low_is = ap low_of s.is ∙ low-joined a b s.low_fits
 
   high_is : high_of x ≡ b
   high_is = ap high_of s.is ∙ high-joined a b s.low_fits
 
   each : (f : ℕ → ℕ) {r : ℕ} → r ≡ in_both f x → r ≡ joined (f a) (f b)
-  each f e = e ∙ ap₂ (λ (l h : ℕ). joined (f l) (f h)) low-is high_is
+  each f e = e ∙ ap₂ (λ (l h : ℕ). joined (f l) (f h)) low_is high_is
 
   renewed : {r : ℕ} → r ≡ in_both updated x → Side r (updated a) (updated b)
   renewed e = record { is = each updated e; low_fits = updated-lt a; high_fits = updated-lt b }
@@ -39,10 +39,10 @@ module _ {x a b : ℕ} (s : Side x a b) where
 
 module _ {x y a b p q : ℕ} (s : Side x a b) (t : Side y p q) where
   lower-upper : {r : ℕ} → r ≡ joined (low_of x) (high_of y) → Side r a q
-  lower-upper e = record { is = e ∙ ap₂ joined (low-is s) (high_is t); low_fits = s.low_fits; high_fits = t.high_fits }
+  lower-upper e = record { is = e ∙ ap₂ joined (low_is s) (high_is t); low_fits = s.low_fits; high_fits = t.high_fits }
 
   upper-lower : {r : ℕ} → r ≡ joined (high_of x) (low_of y) → Side r b p
-  upper-lower e = record { is = e ∙ ap₂ joined (high_is s) (low-is t); low_fits = s.high_fits; high_fits = t.low_fits }
+  upper-lower e = record { is = e ∙ ap₂ joined (high_is s) (low_is t); low_fits = s.high_fits; high_fits = t.low_fits }
 
 small : (c : tie.Start) → (c.args.w.v0 < 2 ^ 32) × (c.args.w.u0 < 2 ^ 32) × (c.args.w.v1 < 2 ^ 32) × (c.args.w.u1 < 2 ^ 32)
 small c = search rules

@@ -11,9 +11,9 @@ returns : tie.Need-returns
 unfolding key_words
 returns c = sym (cond-false _ _ _ (ne_eqb _ 16 c.if1.true))
 
-returns-2 : tie.Need-returns-2
+returns_2 : tie.Need-returns-2
 unfolding key_words
-returns-2 c = c.first-words.ensures ∙ sym (cond-true _ _ _ (eq-eqb _ 16 c.before.if1.false))
+returns_2 c = c.first-words.ensures ∙ sym (cond-true _ _ _ (eq-eqb _ 16 c.before.if1.false))
 
 pub key-words-spec : {M : Type 1} → statement M
-key-words-spec = tie.close (tie.spec returns (λ c κs. search rules) returns-2)
+key-words-spec = tie.close (tie.spec returns (λ c κs. search rules) returns_2)

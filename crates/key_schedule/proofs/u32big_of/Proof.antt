@@ -10,8 +10,8 @@ use Rattle.published.specs.Bytes.{from_bytes}
 use Rattle.key_schedule.proofs.u32big_of.Statement.{statement}
 use Rattle.key_schedule.proofs.u32big_of.Tie as tie
 
-all-four : (bs : List ℕ) → length bs ≡ 4 → get_or bs 0 0 ∷ get_or bs 1 0 ∷ get_or bs 2 0 ∷ get_or bs 3 0 ∷ [] ≡ bs
-all-four bs e =
+all_four : (bs : List ℕ) → length bs ≡ 4 → get_or bs 0 0 ∷ get_or bs 1 0 ∷ get_or bs 2 0 ∷ get_or bs 3 0 ∷ [] ≡ bs
+all_four bs e =
     sym
     (drop-cons bs 0 0 (omega arith)
     ∙ ap (◌∷◌ (get_or bs 0 0))
@@ -21,7 +21,7 @@ all-four bs e =
 returns : tie.Need-returns
 returns c =
     let s = c.before.before.before.before.before.before in
-    c.u32big.ensures ∙ ap from_bytes (all-four s.args.x.now s.requires)
+    c.u32big.ensures ∙ ap from_bytes (all_four s.args.x.now s.requires)
 
 pub u32big-of-spec : {M : Type 1} → statement M
 u32big-of-spec = tie.close (tie.spec (λ c. search rules) (λ c. search rules) (λ c. search rules) (λ c. search rules) (λ c κs. search rules) returns)

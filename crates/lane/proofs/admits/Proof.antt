@@ -7,8 +7,8 @@ use Rattle.lane.proofs.admits.Tie as tie
 returns : tie.Need-returns
 returns c = sym (idle-admits c.before.args.l c.before.args.caller c.if1.true)
 
-returns-2 : tie.Need-returns-2
-returns-2 c = sym (busy-admits c.before.args.l c.before.args.caller c.if1.false)
+returns_2 : tie.Need-returns-2
+returns_2 c = sym (busy-admits c.before.args.l c.before.args.caller c.if1.false)
 
 pub admits-spec : {M : Type 1} → statement M
-admits-spec = tie.close (tie.spec returns returns-2)
+admits-spec = tie.close (tie.spec returns returns_2)

@@ -4,25 +4,25 @@ use borrow.Author.Rules.{rules}
 use borrow.Author.Tests.{lt-leb, ne_eqb}
 use Rattle.bits.proofs.Truth.{told-false, told-true}
 use Rattle.lane.specs.Record.{sound_count}
-use Rattle.lane.proofs.Records.{idle-is, busy-is, busy-ordered, below-leb, no_phase}
+use Rattle.lane.proofs.Records.{idle_is, busy_is, busy-ordered, below-leb, no_phase}
 use Rattle.lane.proofs.sound_lane.Statement.{statement}
 use Rattle.lane.proofs.sound_lane.Tie as tie
 
 returns : tie.Need-returns
 returns c =
     let l = c.before.before.args.l in
-    c.all-zero.ensures ∙ sym (idle-is l c.before.if1.true)
+    c.all-zero.ensures ∙ sym (idle_is l c.before.if1.true)
 
-returns-2 : tie.Need-returns-2
-returns-2 c =
+returns_2 : tie.Need-returns-2
+returns_2 c =
     let a = c.before.before.args in
-    sym (busy-is a.l c.before.if1.false ∙ (rw c.if2.true))
+    sym (busy_is a.l c.before.if1.false ∙ (rw c.if2.true))
 
 returns-3 : tie.Need-returns-3
 returns-3 c =
     let at = c.before.before in
     let l = at.before.before.args.l in
-    sym (busy-is l at.before.if1.false ∙ (rw (ne_eqb l.owner 0 at.if2.false, lt-leb l.direction 1 c.if3.true)))
+    sym (busy_is l at.before.if1.false ∙ (rw (ne_eqb l.owner 0 at.if2.false, lt-leb l.direction 1 c.if3.true)))
 
 returns-4 : tie.Need-returns-4
 returns-4 c =
@@ -63,4 +63,4 @@ returns-7 c =
 pub sound-lane-spec : {M : Type 1} → statement M
 sound-lane-spec =
     tie.close
-    (tie.spec (λ c κs. search rules) returns returns-2 returns-3 (λ c. search rules) (λ c κs. search rules) returns-4 returns-5 returns-6 returns-7)
+    (tie.spec (λ c κs. search rules) returns returns_2 returns-3 (λ c. search rules) (λ c κs. search rules) returns-4 returns-5 returns-6 returns-7)

@@ -20,9 +20,9 @@ returns c =
     let long : length l.words ≡ 80 = search rules in
     c.quintuples.ensures ∙ cond-true _ _ _ (reaches l.words (5 * l.count) 1 long (omega (arith, start.requires))) ∙ rw c.before.before.if1.true
 
-returns-2 : tie.Need-returns-2
+returns_2 : tie.Need-returns-2
 unfolding advanced unseveral
-returns-2 c =
+returns_2 c =
     let start = c.before.before.before.before.before.before.before in
     let l = start.args.l in
     let long : length l.words ≡ 80 = search rules in
@@ -31,4 +31,4 @@ returns-2 c =
 pub advanced-spec : {M : Type 1} → statement M
 advanced-spec =
     tie.close
-    (tie.spec (λ c. search rules) (λ c. search rules) (λ c. search rules) (λ c κs. search rules) returns (λ c. search rules) (λ c. search rules) (λ c κs. search rules) returns-2)
+    (tie.spec (λ c. search rules) (λ c. search rules) (λ c. search rules) (λ c κs. search rules) returns (λ c. search rules) (λ c. search rules) (λ c κs. search rules) returns_2)

@@ -30,12 +30,12 @@ loop-again c =
     let text : List ℕ = s.before.before.args.text.now in
     (omega arith, s.loop.invariant.1 ∙ more_hex text s.loop.i c.before.before.before.loop-test.true (rw c.before.value.ensures at c.if1.false))
 
-returns-2 : tie.Need-returns-2 invariant-loop decreases-loop
+returns_2 : tie.Need-returns-2 invariant-loop decreases-loop
 unfolding all_hex
-returns-2 c =
+returns_2 c =
     let text : List ℕ = c.before.before.before.args.text.now in
     sym (c.before.loop.invariant.1 ∙ ap all_hex (drop_of_length-le text c.loop-test.false))
 
 pub all-hex-spec : {M : Type 1} → statement M
 all-hex-spec =
-    tie.close (tie.spec invariant-loop decreases-loop loop-holds (λ c. omega arith) (λ c κs. tt) returns (λ c. omega arith) (λ c. omega arith) loop-again returns-2)
+    tie.close (tie.spec invariant-loop decreases-loop loop-holds (λ c. omega arith) (λ c κs. tt) returns (λ c. omega arith) (λ c. omega arith) loop-again returns_2)

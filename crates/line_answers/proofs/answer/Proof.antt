@@ -14,10 +14,10 @@ unfolding answer_of
 returns c =
     c.respond-to.ensures ∙ ap written (sym (cond-true _ _ _ (sym c.before.before.is-good.ensures ∙ c.before.if1.true)))
 
-returns-2 : tie.Need-returns-2
+returns_2 : tie.Need-returns-2
 unfolding answer_of
-returns-2 c =
+returns_2 c =
     c.bad-line.ensures ∙ ap written (sym (cond-false _ _ _ (sym c.before.before.is-good.ensures ∙ c.before.if1.false)))
 
 pub answer-spec : {M : Type 1} → statement M
-answer-spec = tie.close (tie.spec (λ c κs. tt) respond-to-requires (λ c κs. tt) returns returns-2)
+answer-spec = tie.close (tie.spec (λ c κs. tt) respond-to-requires (λ c κs. tt) returns returns_2)

@@ -20,9 +20,9 @@ returns : tie.Need-returns
 unfolding is_good
 returns c = rw (ne_eqb _ 67 c.if1.true)
 
-returns-2 : tie.Need-returns-2
+returns_2 : tie.Need-returns-2
 unfolding is_good
-returns-2 c =
+returns_2 c =
     let p1 = c.before.before.before in
     rw (eq-eqb _ _ (long p1), sym c.before.is-letter.ensures ∙ not-true _ c.if2.true)
 
@@ -63,7 +63,7 @@ returns-6 c =
 pub is-good-spec : {M : Type 1} → statement M
 is-good-spec =
     tie.close
-    (tie.spec returns (λ c. within c.before 1 (lit≤ tt)) (λ c κs. tt) returns-2 (λ c. within c.before.before.before.before 2 (lit≤ tt)) returns-3
+    (tie.spec returns (λ c. within c.before 1 (lit≤ tt)) (λ c κs. tt) returns_2 (λ c. within c.before.before.before.before 2 (lit≤ tt)) returns-3
     (λ c. within c.before.before.before.before.before.before 35 (lit≤ tt)) returns-4 (λ c. lit≤ tt) (λ c. lit≤ tt)
     (λ c. within c.before.before.before.before.before.before.before 34 (lit≤ tt)) (λ c κs. tt) returns-5 (λ c. lit≤ tt) (λ c. lit≤ tt)
     (λ c. within c.before.before.before.before.before.before.before.before.before.before 67 (lit≤ tt)) (λ c κs. tt) returns-6)

@@ -8,9 +8,9 @@ returns : tie.Need-returns
 unfolding is_letter
 returns c = rw (eq-eqb _ _ c.if1.true)
 
-returns-2 : tie.Need-returns-2
+returns_2 : tie.Need-returns-2
 unfolding is_letter
-returns-2 c = rw (ne_eqb _ _ c.before.if1.false, eq-eqb _ _ c.if2.true)
+returns_2 c = rw (ne_eqb _ _ c.before.if1.false, eq-eqb _ _ c.if2.true)
 
 returns-3 : tie.Need-returns-3
 unfolding is_letter
@@ -34,4 +34,4 @@ returns-6 c =
     rw (ne_eqb _ _ p3.before.before.if1.false, ne_eqb _ _ p3.before.if2.false, ne_eqb _ _ p3.if3.false, ne_eqb _ _ c.before.if4.false, ne_eqb _ _ c.if5.false)
 
 pub is-letter-spec : {M : Type 1} → statement M
-is-letter-spec = tie.close (tie.spec returns returns-2 returns-3 returns-4 returns-5 returns-6)
+is-letter-spec = tie.close (tie.spec returns returns_2 returns-3 returns-4 returns-5 returns-6)

@@ -26,8 +26,8 @@ returns c =
     (ap hex_of (leaves key block s.requires.0 s.requires.1 (encrypts key block called.encrypt-by-key.ensures))
     ∙ sym (response-E s.args.letter key block p1.if1.true))
 
-returns-2 : tie.Need-returns-2
-returns-2 c =
+returns_2 : tie.Need-returns-2
+returns_2 c =
     let c2 = c.before.before in
     let called = c2.before.before.before in
     let p2 = called.before.before in
@@ -52,7 +52,7 @@ returns-3 c =
     let block : List ℕ = s.args.block.now in
     c.push-hex3.ensures [] c2.empty3.ensures
     ∙ ap written
-    (ap hex_of (leaves key block s.requires.0 s.requires.1 called.one-round.ensures)
+    (ap hex_of (leaves key block s.requires.0 s.requires.1 called.one_round.ensures)
     ∙ sym (response-R s.args.letter key block p1.if1.false p2.if2.false p3.if3.true))
 
 returns-4 : tie.Need-returns-4
@@ -108,6 +108,6 @@ returns-6 c =
 pub respond-spec : {M : Type 1} → statement M
 respond-spec =
     tie.close
-    (tie.spec (λ c κs. tt) (λ c κs. tt) (λ c κs. tt) (λ c. search rules) returns (λ c κs. tt) (λ c κs. tt) (λ c κs. tt) (λ c. search rules) returns-2 (λ c κs. tt) (λ c κs. tt)
+    (tie.spec (λ c κs. tt) (λ c κs. tt) (λ c κs. tt) (λ c. search rules) returns (λ c κs. tt) (λ c κs. tt) (λ c κs. tt) (λ c. search rules) returns_2 (λ c κs. tt) (λ c κs. tt)
     (λ c κs. tt) (λ c. search rules) returns-3 (λ c κs. tt) (λ c κs. tt) (λ c κs. tt) (λ c. search rules) returns-4 (λ c κs. tt) (λ c κs. tt) (λ c κs. tt) (λ c. search rules) returns-5
     (λ c κs. tt) (λ c κs. tt) (λ c. search rules) returns-6)

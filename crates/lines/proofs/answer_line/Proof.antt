@@ -6,7 +6,7 @@ use native.Mathlib.Omega.{arith}
 use lib.ListN.{length}
 use borrow.Author.Rules.{rules}
 use Rattle.text.specs.Written.{written}
-use Rattle.text.proofs.Texts.{take-most}
+use Rattle.text.proofs.Texts.{take_most}
 use Rattle.line_answers.specs.Line.{answer_of}
 use Rattle.lines.specs.Input.{answer_line}
 use Rattle.lines.specs.Session.{held}
@@ -27,7 +27,7 @@ returns c =
     let s = c4.before.before in
     let long : length s.args.r.line ≡ 68 = search rules in
     c.push.ensures _ c1.answer.ensures
-    ∙ ap (λ (l : List ℕ). written (answer_of s.args.n l ++ (10 ∷ []))) (take-most s.args.r.count 68 c4.at-most-68.result s.args.r.line long c4.at-most-68.ensures)
+    ∙ ap (λ (l : List ℕ). written (answer_of s.args.n l ++ (10 ∷ []))) (take_most s.args.r.count 68 c4.at-most-68.result s.args.r.line long c4.at-most-68.ensures)
 
 pub answer-line-spec : {M : Type 1} → statement M
 answer-line-spec = tie.close (tie.spec (λ c κs. tt) (λ c. search rules) (λ c. search rules) part-answer-end (λ c κs. tt) (λ c κs. tt) returns)

@@ -9,12 +9,12 @@ returns : tie.Need-returns
 unfolding closing_of
 returns c = rw (eq-eqb _ _ c.before.before.if1.true) (c.push-done.ensures [] c.before.empty.ensures)
 
-returns-2 : tie.Need-returns-2
+returns_2 : tie.Need-returns-2
 unfolding closing_of
-returns-2 c =
+returns_2 c =
     let c1 = c.before in
     let c2 = c1.before in
     rw (ne_eqb _ _ c2.before.if1.false, ← c2.next-line.ensures) (c.push-done2.ensures _ c1.answer-line.ensures)
 
 pub closing-spec : {M : Type 1} → statement M
-closing-spec = tie.close (tie.spec (λ c κs. tt) (λ c κs. tt) returns (λ c κs. tt) (λ c κs. tt) (λ c κs. tt) returns-2)
+closing-spec = tie.close (tie.spec (λ c κs. tt) (λ c κs. tt) returns (λ c κs. tt) (λ c κs. tt) (λ c κs. tt) returns_2)

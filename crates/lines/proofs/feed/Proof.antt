@@ -14,10 +14,10 @@ returns c =
     let text : c.before.answer-line.result ≡ written (answer_line c2.next-line.result (held c2.before.before.args.r)) = c.before.answer-line.ensures in
     rw (eq-eqb _ _ c2.before.if1.true, ← c2.next-line.ensures, ← text)
 
-returns-2 : tie.Need-returns-2
+returns_2 : tie.Need-returns-2
 unfolding fed_by
-returns-2 c =
+returns_2 c =
     rw (ne_eqb _ _ c.before.before.if1.false, ← c.before.keep.ensures, ← c.empty.ensures)
 
 pub feed-spec : {M : Type 1} → statement M
-feed-spec = tie.close (tie.spec (λ c κs. tt) (λ c κs. tt) (λ c κs. tt) (λ c κs. tt) returns returns-2)
+feed-spec = tie.close (tie.spec (λ c κs. tt) (λ c κs. tt) (λ c κs. tt) (λ c κs. tt) returns returns_2)

@@ -10,9 +10,9 @@ returns : tie.Need-returns
 unfolding kept
 returns c = rw (lt-ltb c.before.before.args.r.count 68 (omega arith))
 
-returns-2 : tie.Need-returns-2
+returns_2 : tie.Need-returns-2
 unfolding kept
-returns-2 c = rw (le-ltb c.before.args.r.count 68 (omega arith))
+returns_2 c = rw (le-ltb c.before.args.r.count 68 (omega arith))
 
 pub keep_spec : {M : Type 1} → statement M
-keep_spec = tie.close (tie.spec (λ c. search rules) (λ c. search rules) returns returns-2)
+keep_spec = tie.close (tie.spec (λ c. search rules) (λ c. search rules) returns returns_2)

@@ -9,9 +9,9 @@ returns : tie.Need-returns
 unfolding next_line
 returns c = rw (lt-ltb _ _ c.if1.true)
 
-returns-2 : tie.Need-returns-2
+returns_2 : tie.Need-returns-2
 unfolding next_line
-returns-2 c = rw (le-ltb _ _ c.if1.false)
+returns_2 c = rw (le-ltb _ _ c.if1.false)
 
 pub next-line-spec : {M : Type 1} → statement M
-next-line-spec = tie.close (tie.spec (λ c. search rules) returns returns-2)
+next-line-spec = tie.close (tie.spec (λ c. search rules) returns returns_2)

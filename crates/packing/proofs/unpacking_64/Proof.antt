@@ -8,7 +8,7 @@ use Rattle.published.specs.Bytes.{to_bytes}
 use Rattle.primitives.specs.declared.State.{State}
 use Rattle.primitives.specs.Packed.{block_of64}
 use Rattle.packing.specs.Inner.{copied, reordered, scattered_from}
-use Rattle.packing.proofs.Small.{scattered_words, puts-eight, unpacked-eight, unpacked-not-eight}
+use Rattle.packing.proofs.Small.{scattered_words, puts-eight, unpacked-eight, unpacked_not_eight}
 use Rattle.packing.proofs.unpacking_64.Statement.{statement}
 use Rattle.packing.proofs.unpacking_64.Tie as tie
 
@@ -26,10 +26,10 @@ returns c =
     ∙ puts-eight (block_of64 s) out len
     ∙ sym (unpacked-eight s out len)
 
-returns-2 : tie.Need-returns-2
-returns-2 c = sym (unpacked-not-eight c.before.before.args.state c.before.before.args.output.now c.if1.false)
+returns_2 : tie.Need-returns-2
+returns_2 c = sym (unpacked_not_eight c.before.before.args.state c.before.before.args.output.now c.if1.false)
 
 pub unpacking-64-spec : {M : Type 1} → statement M
 unpacking-64-spec =
     tie.close
-    (tie.spec (λ c κs. search rules) (λ c κs. search rules) (λ c κs. search rules) (λ c κs. search rules) (λ c. search rules) returns returns-2)
+    (tie.spec (λ c κs. search rules) (λ c κs. search rules) (λ c κs. search rules) (λ c κs. search rules) (λ c. search rules) returns returns_2)

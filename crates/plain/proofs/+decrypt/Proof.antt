@@ -12,7 +12,7 @@ use Rattle.published.proofs.Undone.{unrounds-lt}
 use Rattle.plain_key.specs.Inner.{key_of, count_of, place_of, uv_of}
 use Rattle.plain.specs.Inner.{state_of, nibbles_of, pair, unrounds_from}
 use Rattle.plain.proofs.Nibbles.{again, same_length, state_of_lt, state_of_nibbles_of, width_of}
-use Rattle.plain.proofs.Rounds.{constant-next, unrounds-done, round-last, nibbles-of-state, count_most, place-lt}
+use Rattle.plain.proofs.Rounds.{constant_next, unrounds-done, round-last, nibbles_of_state, count_most, place-lt}
 use Rattle.plain.proofs.decrypt.Reads as decrypt
 use Rattle.plain.proofs.decrypt.Kinds as decrypt-kinds
 use Rattle.plain.proofs.+decrypt.Lts-decrypt as decrypt-lts
@@ -68,7 +68,7 @@ decrypt_decrypt_requires t c κs =
     let a = start.args in
     let ok = start.requires.1 in
     let more : a.r + 1 ≤ count_of (length a.s.now) = omega (arith, some t test) in
-    (omega (arith, start.requires.0, some t test, count_most (length a.s.now)), (ok.0, (more, constant-next a.r ok.1.1 stepped.step-constant.ensures)))
+    (omega (arith, start.requires.0, some t test, count_most (length a.s.now)), (ok.0, (more, constant_next a.r ok.1.1 stepped.step-constant.ensures)))
 
 decrypt_unround_requires : (t : ℕ) → decrypt-lts.Need-unround-requires (called t) (at t) decrypt.Post
 decrypt_unround_requires t c κs =
@@ -101,15 +101,15 @@ decrypt_returns t c =
     ∙ ap (nibbles_of n)
     (ap (λ (j : ℕ). unround (4 * n) j p next x) place.v-place.ensures
     ∙ round-last (4 * n) (place_of n) (uv_of n) (count_of n) a.r (key_of a.k) (state_of s) (some t test) (ap₂ pair u.u-of.ensures v.v-of.ensures)
-    (constant-next a.r start.requires.1.1.1 stepped.step-constant.ensures) keyed.update-key.ensures)
+    (constant_next a.r start.requires.1.1.1 stepped.step-constant.ensures) keyed.update-key.ensures)
 
-decrypt_returns-2 : (t : ℕ) → decrypt-lts.Need-returns-2 (called t) (at t) decrypt.Post
-decrypt_returns-2 t c =
+decrypt_returns_2 : (t : ℕ) → decrypt-lts.Need-returns-2 (called t) (at t) decrypt.Post
+decrypt_returns_2 t c =
     let start = c.before.before.before in
     let a = start.args in
     let n : ℕ = length a.s.now in
     let none : count_of n ≤ a.r = rw c.before.rounds-of.ensures at c.if1.false in
-    nibbles-of-state a.s.now _ start.requires.1.0 (unrounds-done (4 * n) (place_of n) (uv_of n) (count_of n) a.r (key_of a.k) (state_of a.s.now) none)
+    nibbles_of_state a.s.now _ start.requires.1.0 (unrounds-done (4 * n) (place_of n) (uv_of n) (count_of n) a.r (key_of a.k) (state_of a.s.now) none)
 
 pub +decrypt-spec : {M : Type 1} → statement M
 +decrypt-spec =
@@ -127,4 +127,4 @@ pub +decrypt-spec : {M : Type 1} → statement M
     (decrypt_unround_requires t)
     (λ c. search rules)
     (decrypt_returns t)
-    (decrypt_returns-2 t))
+    (decrypt_returns_2 t))

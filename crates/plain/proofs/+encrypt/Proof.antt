@@ -12,7 +12,7 @@ use Rattle.published.proofs.Undone.{round-lt}
 use Rattle.plain_key.specs.Inner.{key_of, count_of, place_of, uv_of}
 use Rattle.plain.specs.Inner.{state_of, nibbles_of, pair, rounds_from}
 use Rattle.plain.proofs.Nibbles.{again, same_length, width_of}
-use Rattle.plain.proofs.Rounds.{constant-next, rounds-done, round-first, state-after, nibbles-of-state, count_most, place-lt}
+use Rattle.plain.proofs.Rounds.{constant_next, rounds-done, round_first, state_after, nibbles_of_state, count_most, place-lt}
 use Rattle.plain.proofs.encrypt.Reads as encrypt
 use Rattle.plain.proofs.encrypt.Kinds as encrypt-kinds
 use Rattle.plain.proofs.+encrypt.Lts-encrypt as encrypt-lts
@@ -76,7 +76,7 @@ encrypt_encrypt_requires t c κs =
     let same = same_length a.s.now _ rounded.round.ensures in
     let more : a.r + 1 ≤ count_of (length a.s.now) = omega (arith, some t test) in (
       omega (arith, start.requires.0, some t test, count_most (length a.s.now)),
-      (again a.s.now _ rounded.round.ensures ok.0, (rw same more, constant-next a.r ok.1.1 stepped.step-constant.ensures)),
+      (again a.s.now _ rounded.round.ensures ok.0, (rw same more, constant_next a.r ok.1.1 stepped.step-constant.ensures)),
     )
 
 encrypt_returns : (t : ℕ) → encrypt-lts.Need-returns (called t) (at t) encrypt.Post
@@ -97,21 +97,21 @@ encrypt_returns t c =
     let p : Pair = pair u.u-of.result v.v-of.result in
     let here : length rounded.round.new.0 ≡ n = same_length s _ rounded.round.ensures in
     let once : state_of rounded.round.new.0 ≡ round (4 * n) (place_of n) p next (state_of s) =
-    state-after (λ m. round m place.v-place.result p next) s (round-lt (4 * n) place.v-place.result (width_of s start.requires.1.0) p next (state_of s)) rounded.round.ensures
+    state_after (λ m. round m place.v-place.result p next) s (round-lt (4 * n) place.v-place.result (width_of s start.requires.1.0) p next (state_of s)) rounded.round.ensures
     ∙ ap (λ (j : ℕ). round (4 * n) j p next (state_of s)) place.v-place.ensures in
     made.encrypt.ensures
     ∙ ap (λ (m : ℕ). nibbles_of m (rounds_from m (key_of keyed.update-key.result) (a.r + 1) (state_of rounded.round.new.0))) here
     ∙ ap (nibbles_of n)
-    (round-first (4 * n) (place_of n) (uv_of n) (count_of n) a.r (key_of a.k) (state_of s) (some t test) (ap₂ pair u.u-of.ensures v.v-of.ensures)
-    (constant-next a.r start.requires.1.1.1 stepped.step-constant.ensures) keyed.update-key.ensures once)
+    (round_first (4 * n) (place_of n) (uv_of n) (count_of n) a.r (key_of a.k) (state_of s) (some t test) (ap₂ pair u.u-of.ensures v.v-of.ensures)
+    (constant_next a.r start.requires.1.1.1 stepped.step-constant.ensures) keyed.update-key.ensures once)
 
-encrypt_returns-2 : (t : ℕ) → encrypt-lts.Need-returns-2 (called t) (at t) encrypt.Post
-encrypt_returns-2 t c =
+encrypt_returns_2 : (t : ℕ) → encrypt-lts.Need-returns-2 (called t) (at t) encrypt.Post
+encrypt_returns_2 t c =
     let start = c.before.before.before in
     let a = start.args in
     let n : ℕ = length a.s.now in
     let none : count_of n ≤ a.r = rw c.before.rounds-of.ensures at c.if1.false in
-    nibbles-of-state a.s.now _ start.requires.1.0 (rounds-done (4 * n) (place_of n) (uv_of n) (count_of n) a.r (key_of a.k) (state_of a.s.now) none)
+    nibbles_of_state a.s.now _ start.requires.1.0 (rounds-done (4 * n) (place_of n) (uv_of n) (count_of n) a.r (key_of a.k) (state_of a.s.now) none)
 
 pub +encrypt-spec : {M : Type 1} → statement M
 +encrypt-spec =
@@ -129,4 +129,4 @@ pub +encrypt-spec : {M : Type 1} → statement M
     (encrypt_encrypt_requires t)
     (λ c. search rules)
     (encrypt_returns t)
-    (encrypt_returns-2 t))
+    (encrypt_returns_2 t))

@@ -8,7 +8,7 @@ use borrow.Author.Rules.{rules}
 use Rattle.published.specs.Bytes.{from_bytes, to_bytes}
 use Rattle.plain_key.specs.Inner.{key_of}
 use Rattle.plain.specs.Inner.{state_of, nibbles_of, Nibbles, rounds_by}
-use Rattle.plain.proofs.Nibbles.{nibbles-of, length-nibbles_of}
+use Rattle.plain.proofs.Nibbles.{nibbles_of_lem, length-nibbles_of}
 use Rattle.plain.proofs.Rounds.{within, block_made}
 use Rattle.plain.proofs.cross.Statement.{statement}
 use Rattle.plain.proofs.cross.Tie as tie
@@ -31,7 +31,7 @@ are_nibbles c =
     let size : length (start c).args.block.now % 2 ≡ 0 = (start c).requires.1.1 in
     let least : 4 ≤ length (start c).args.block.now = (start c).requires.1.2 in
     let most : length (start c).args.block.now ≤ 16 = (start c).requires.1.3 in
-    nibbles-of (2 * length (start c).args.block.now) _ (omega arith) (omega arith) (omega arith) (read c)
+    nibbles_of_lem (2 * length (start c).args.block.now) _ (omega arith) (omega arith) (omega arith) (read c)
 
 -- and after the rounds
 abbrev reading : tie.After-through → tie.After-read-block
@@ -50,7 +50,7 @@ write-block-requires c κs =
     let size : length (start (reading through)).args.block.now % 2 ≡ 0 = (start (reading through)).requires.1.1 in
     let least : 4 ≤ length (start (reading through)).args.block.now = (start (reading through)).requires.1.2 in
     let most : length (start (reading through)).args.block.now ≤ 16 = (start (reading through)).requires.1.3 in
-    (nibbles-of (2 * length (start (reading through)).args.block.now) _ (omega arith) (omega arith) (omega arith) (gone through), ap length (gone through) ∙ length-nibbles_of _ _)
+    (nibbles_of_lem (2 * length (start (reading through)).args.block.now) _ (omega arith) (omega arith) (omega arith) (gone through), ap length (gone through) ∙ length-nibbles_of _ _)
 
 returns : tie.Need-returns
 returns c =

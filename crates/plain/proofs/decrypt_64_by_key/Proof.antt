@@ -8,23 +8,23 @@ use borrow.Author.Rules.{rules}
 use Rattle.answers.proofs.Outcome.{refuses, done}
 use Rattle.published.specs.Bytes.{from_bytes, to_bytes}
 use Rattle.published.specs.Gift64.{pairs_of64, decrypted64}
-use Rattle.published.proofs.Calls64.{key-passed-64}
+use Rattle.published.proofs.Calls64.{key_passed_64}
 use Rattle.plain.specs.Inner.{rounds_by}
 use Rattle.plain.proofs.decrypt_64_by_key.Statement.{statement}
 use Rattle.plain.proofs.decrypt_64_by_key.Tie as tie
 
 -- past the refusals the key has 16 bytes and the block 8
 passed : (c : tie.Else1) → (length c.before.before.before.before.args.key.now ≡ 16) × (length c.before.before.before.before.args.block.now ≡ 8)
-passed c = key-passed-64 _ _ (sym c.before.key-code-64.ensures ∙ c.if1.false)
+passed c = key_passed_64 _ _ (sym c.before.key-code-64.ensures ∙ c.if1.false)
 
 cross-requires : tie.Need-cross-requires
 cross-requires c κs =
     let ok = passed c.before.before in
     (ok.0, (omega (arith, ok.1), omega (arith, ok.1), omega (arith, ok.1), omega (arith, ok.1)))
 
-returns-2 : tie.Need-returns-2
+returns_2 : tie.Need-returns-2
 unfolding decrypted64 pairs_of64
-returns-2 c =
+returns_2 c =
     let at = c.before.before.before.before.before.before in
     let a = at.before.before.before.before.args in
     done at.before.key-code-64.ensures at.if1.false
@@ -40,4 +40,4 @@ decrypt-64-by-key-spec =
     (λ c. search rules)
     cross-requires
     (λ c. search rules)
-    returns-2)
+    returns_2)

@@ -22,9 +22,9 @@ cross-requires c κs =
     let ok = passed c.before.before in
     (ok.0, (omega (arith, ok.1), omega (arith, ok.1), omega (arith, ok.1), omega (arith, ok.1)))
 
-returns-2 : tie.Need-returns-2
+returns_2 : tie.Need-returns-2
 unfolding decrypted pairs_of
-returns-2 c =
+returns_2 c =
     let at = c.before.before.before.before.before.before in
     let a = at.before.before.before.before.args in
     done at.before.key-code.ensures at.if1.false
@@ -40,4 +40,4 @@ decrypt-by-key-spec =
     (λ c. search rules)
     cross-requires
     (λ c. search rules)
-    returns-2)
+    returns_2)

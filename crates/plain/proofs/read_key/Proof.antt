@@ -3,7 +3,7 @@ use Prim.Native.Nat.{◌+◌, ◌-◌, ◌*◌, ◌≤◌, ◌<◌}
 use native.Mathlib.Omega.{arith}
 use lib.ListN.{get_or}
 use Rattle.published.specs.Bytes.{from_bytes, Bytes}
-use Rattle.plain.proofs.Bytes.{KeyRead, key-none, key-next, key-all}
+use Rattle.plain.proofs.Bytes.{KeyRead, key_none, key_next, key_all}
 use Rattle.plain.proofs.read_key.Statement.{statement}
 use Rattle.plain.proofs.read_key.Tie as tie
 
@@ -14,7 +14,7 @@ abbrev decreases-loop : tie.decreases-loop
 decreases-loop key k₀ i₀ k i = 8 - i
 
 loop-holds : tie.Need-loop-init invariant-loop decreases-loop
-loop-holds c = (omega arith, λ h. omega arith, key-none _)
+loop-holds c = (omega arith, λ h. omega arith, key_none _)
 
 -- the two bytes are bytes
 high : (c : tie.After-shared-slice-known invariant-loop decreases-loop) → get_or c.before.before.before.args.key.now (2 * c.before.before.loop.i) 0 < 256
@@ -27,13 +27,13 @@ loop-again : tie.Need-loop-preserved invariant-loop decreases-loop
 loop-again c =
     let l = c.before.before.before.loop in
     let start = c.before.before.before.before in
-    (omega arith, λ h i. (c.shared-slice-known2.given i).fits, key-next start.args.key.now start.requires (λ i. (c.shared-slice-known2.given i).fits) l.k l.i (omega arith) l.invariant.2)
+    (omega arith, λ h i. (c.shared-slice-known2.given i).fits, key_next start.args.key.now start.requires (λ i. (c.shared-slice-known2.given i).fits) l.k l.i (omega arith) l.invariant.2)
 
 returns : tie.Need-returns invariant-loop decreases-loop
 returns c =
     let l = c.before.loop in
     let start = c.before.before in
-    key-all start.args.key.now start.requires (l.invariant.1 (omega arith)) l.k l.i (omega arith) l.invariant.2
+    key_all start.args.key.now start.requires (l.invariant.1 (omega arith)) l.k l.i (omega arith) l.invariant.2
 
 pub read-key-spec : {M : Type 1} → statement M
 read-key-spec =

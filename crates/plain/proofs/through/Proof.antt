@@ -17,8 +17,8 @@ encrypt-requires : tie.Need-encrypt-requires
 unfolding constant
 encrypt-requires c κs = (c.before.before.before.requires, (zero-le, refl))
 
-returns-2 : tie.Need-returns-2
-returns-2 c = rw c.before.before.before.before.if1.false c.before.before.encrypt.ensures
+returns_2 : tie.Need-returns-2
+returns_2 c = rw c.before.before.before.before.if1.false c.before.before.encrypt.ensures
 
 pub through-spec : {M : Type 1} → statement M
-through-spec = tie.close (tie.spec decrypt-requires (λ c. search rules) returns encrypt-requires (λ c. search rules) returns-2)
+through-spec = tie.close (tie.spec decrypt-requires (λ c. search rules) returns encrypt-requires (λ c. search rules) returns_2)

@@ -11,7 +11,7 @@ use borrow.Author.Tests.{eq-eqb, ne_eqb}
 use Rattle.published.specs.Gift128.{pair_of}
 use Rattle.published.specs.Gift64.{pair_of64}
 use Rattle.plain_key.specs.Inner.{key_of}
-use Rattle.plain_key.proofs.Keys.{u-is, small-u-is}
+use Rattle.plain_key.proofs.Keys.{u_is, small_u_is}
 use Rattle.plain_key.proofs.u_of.Statement.{statement}
 use Rattle.plain_key.proofs.u_of.Tie as tie
 
@@ -24,11 +24,11 @@ picked c t = (cond t (pair_of64 (key_of c.args.t1)) (pair_of (key_of c.args.t1))
 
 returns : tie.Need-returns
 unfolding picked
-returns c = let start = c.before in small-u-is start.args.t1 (λ i. (word start i).fits) ∙ sym (ap (picked start) (eq-eqb _ 16 c.if1.true))
+returns c = let start = c.before in small_u_is start.args.t1 (λ i. (word start i).fits) ∙ sym (ap (picked start) (eq-eqb _ 16 c.if1.true))
 
-returns-2 : tie.Need-returns-2
+returns_2 : tie.Need-returns-2
 unfolding picked
-returns-2 c = let start = c.before in u-is start.args.t1 (λ i. (word start i).fits) ∙ sym (ap (picked start) (ne_eqb _ 16 c.if1.false))
+returns_2 c = let start = c.before in u_is start.args.t1 (λ i. (word start i).fits) ∙ sym (ap (picked start) (ne_eqb _ 16 c.if1.false))
 
 pub u-of-spec : {M : Type 1} → statement M
 u-of-spec =
@@ -43,4 +43,4 @@ u-of-spec =
     (λ c. search rules)
     (λ c. search rules)
     (λ c. omega (arith, word c.before 5, word c.before 4))
-    returns-2)
+    returns_2)

@@ -7,7 +7,7 @@ use mir.Syntax.{w16}
 use mir.Val.{Fits}
 use borrow.Author.Rules.{rules}
 use Rattle.plain_key.specs.Inner.{key_of}
-use Rattle.plain_key.proofs.Keys.{update-is}
+use Rattle.plain_key.proofs.Keys.{update_is}
 use Rattle.plain_key.proofs.update_key.Statement.{statement}
 use Rattle.plain_key.proofs.update_key.Tie as tie
 
@@ -15,7 +15,7 @@ returns : tie.Need-returns
 returns c =
     let k : List ℕ = c.before.before.args.t1 in
     ap₂ (λ (a b : ℕ). key_of (get_or k 2 0 ∷ get_or k 3 0 ∷ get_or k 4 0 ∷ get_or k 5 0 ∷ get_or k 6 0 ∷ get_or k 7 0 ∷ a ∷ b ∷ [])) c.before.rotated-right.ensures c.rotated-right2.ensures
-    ∙ update-is k (λ i. let word : Fits w16 (get_or k i 0) = search rules in word.fits)
+    ∙ update_is k (λ i. let word : Fits w16 (get_or k i 0) = search rules in word.fits)
 
 pub update-key-spec : {M : Type 1} → statement M
 update-key-spec = tie.close (tie.spec

@@ -8,8 +8,8 @@ use Rattle.plain_key.proofs.v_place.Tie as tie
 returns : tie.Need-returns
 returns c = sym (cond-true _ _ _ (eq-eqb _ 16 c.if1.true))
 
-returns-2 : tie.Need-returns-2
-returns-2 c = sym (cond-false _ _ _ (ne_eqb _ 16 c.if1.false))
+returns_2 : tie.Need-returns-2
+returns_2 c = sym (cond-false _ _ _ (ne_eqb _ 16 c.if1.false))
 
 pub v-place-spec : {M : Type 1} → statement M
-v-place-spec = tie.close (tie.spec returns returns-2)
+v-place-spec = tie.close (tie.spec returns returns_2)

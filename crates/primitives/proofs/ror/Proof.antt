@@ -20,10 +20,10 @@ returns c =
     (ap (λ (n : ℕ). permuted (ror_in 32 n) c.before.args.x) c.if1.true
     ∙ permuted-id (ror_in 32 0) c.before.args.x (agree 32 (ror_in 32 0) (λ i. i) tt) c.before.ranges.x.fits)
 
-returns-2 : tie.Need-returns-2
-returns-2 c =
+returns_2 : tie.Need-returns-2
+returns_2 c =
     let n : ℕ = c.before.args.y % 32 in
     moves (ror_in 32 n) (turned n) (at 32 (λ k. is_move (ror_in 32 k) (turned k)) tt n (mod-lt c.before.args.y (lit< tt))) c.before.args.x c.before.ranges.x.fits
 
 pub ror-spec : {M : Type 1} → statement M
-ror-spec = tie.close (tie.spec returns (λ c. search rules) (λ c. search rules) (λ c. search rules) returns-2)
+ror-spec = tie.close (tie.spec returns (λ c. search rules) (λ c. search rules) (λ c. search rules) returns_2)

@@ -16,9 +16,9 @@ returns : tie.Need-returns
 unfolding digit number bit of_bits P step constant permuted N nibble_at arranged constant_word
 returns c = five_from c.before.args.i 0 c.if1.true (lit< tt)
 
-returns-2 : tie.Need-returns-2
+returns_2 : tie.Need-returns-2
 unfolding digit number bit of_bits P step constant permuted N nibble_at arranged constant_word
-returns-2 c = five_from c.before.before.args.i 5 c.if2.true (lit< tt)
+returns_2 c = five_from c.before.before.args.i 5 c.if2.true (lit< tt)
 
 returns-3 : tie.Need-returns-3
 unfolding digit number bit of_bits P step constant permuted N nibble_at arranged constant_word
@@ -69,4 +69,4 @@ returns-8 c =
     five_from i 35 (only i start.requires.0 from-35) (lit< tt)
 
 pub constants-spec : {M : Type 1} → statement M
-constants-spec = tie.close (tie.spec returns returns-2 returns-3 returns-4 returns-5 returns-6 returns-7 returns-8)
+constants-spec = tie.close (tie.spec returns returns_2 returns-3 returns-4 returns-5 returns-6 returns-7 returns-8)

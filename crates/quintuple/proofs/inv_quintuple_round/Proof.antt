@@ -8,7 +8,7 @@ use Rattle.bits.proofs.Truth.{told-false, told-true}
 use Rattle.primitives.proofs.Blocks.{state_of_block_of}
 use Rattle.quintuple.specs.declared.Part.{Part}
 use Rattle.quintuple.specs.Inner.{part_of, unfive_of}
-use Rattle.quintuple.proofs.Five.{is-good, unstays}
+use Rattle.quintuple.proofs.Five.{is_good_lem, unstays}
 use Rattle.quintuple.proofs.Chain.{unmade, unfive_is}
 use Rattle.quintuple.proofs.inv_quintuple_round.Statement.{statement}
 use Rattle.quintuple.proofs.inv_quintuple_round.Tie as tie
@@ -21,11 +21,11 @@ returns c =
 read-part-requires : tie.Need-read-part-requires
 read-part-requires c κs =
     let a = c.before.before.before.args in
-    let ok = is-good a.rkey.now a.i (told-true c.before.starts.ensures c.if1.false) in
+    let ok = is_good_lem a.rkey.now a.i (told-true c.before.starts.ensures c.if1.false) in
     (ok.0, (ok.1, ok.2))
 
-returns-2 : tie.Need-returns-2
-returns-2 c =
+returns_2 : tie.Need-returns-2
+returns_2 c =
     -- cN: the place N things back
     let c1 = c.before in
     let c2 = c1.before in
@@ -42,7 +42,7 @@ returns-2 c =
     let a = start.args in
     let ws : List ℕ = a.rkey.now in
     let i : ℕ = a.i in
-    let ok = is-good ws i (told-true tested.starts.ensures c10.before.if1.false) in
+    let ok = is_good_lem ws i (told-true tested.starts.ensures c10.before.if1.false) in
     unmade c10.read-part.result a.state _ _ _ _ _ _ _ _ _ _ c9.exchanged.ensures c8.inv-round-4.ensures c7.exchanged2.ensures c6.inv-round-3.ensures c5.exchanged3.ensures c4.inv-round-2.ensures c3.exchanged4.ensures c2.inv-round-1.ensures c1.exchanged5.ensures c.inv-round-0.ensures
     ∙ ap (λ (p : Part). unfive_of p a.state) c10.read-part.ensures
     ∙ ap (unfive_of (part_of ws i)) (sym (state_of_block_of a.state (omega (arith, start.well-formed))))
@@ -51,4 +51,4 @@ returns-2 c =
 pub inv-quintuple-round-spec : {M : Type 1} → statement M
 inv-quintuple-round-spec =
     tie.close
-    (tie.spec (λ c κs. search rules) returns read-part-requires (λ c κs. search rules) (λ c κs. search rules) (λ c κs. search rules) (λ c κs. search rules) (λ c κs. search rules) (λ c κs. search rules) (λ c κs. search rules) (λ c κs. search rules) (λ c κs. search rules) (λ c κs. search rules) returns-2)
+    (tie.spec (λ c κs. search rules) returns read-part-requires (λ c κs. search rules) (λ c κs. search rules) (λ c κs. search rules) (λ c κs. search rules) (λ c κs. search rules) (λ c κs. search rules) (λ c κs. search rules) (λ c κs. search rules) (λ c κs. search rules) (λ c κs. search rules) returns_2)

@@ -8,7 +8,7 @@ use borrow.Author.Rules.{part_to_end}
 use Rattle.bits.proofs.Truth.{told-false, told-true}
 use Rattle.bits.proofs.Computed.{cond-true, cond-false}
 use Rattle.quintuple.specs.Quintuple.{unquintupled, unseveral}
-use Rattle.quintuple.proofs.Several.{reached, one-undone}
+use Rattle.quintuple.proofs.Several.{reached, one_undone}
 use Rattle.quintuple.proofs.inv_quintuples.Statement.{statement}
 use Rattle.quintuple.proofs.inv_quintuples.Tie as tie
 
@@ -59,11 +59,11 @@ loop-again c =
       omega arith,
       λ m e.
           c.inv-quintuple-round.ensures ∙ ap (λ (part : List ℕ). unquintupled l.state part i) (part_to_end ws (2 * i))
-          ∙ one-undone ws i l.i (a.from + 5 * a.n) five (omega arith) l.state a.s l.invariant.5 m e,
+          ∙ one_undone ws i l.i (a.from + 5 * a.n) five (omega arith) l.state a.s l.invariant.5 m e,
     )
 
-returns-2 : tie.Need-returns-2 invariant-loop decreases-loop
-returns-2 c =
+returns_2 : tie.Need-returns-2 invariant-loop decreases-loop
+returns_2 c =
     let at = c.before.before in
     let a = at.before.before.before.args in
     let l = c.before.loop in
@@ -74,4 +74,4 @@ returns-2 c =
 pub inv-quintuples-spec : {M : Type 1} → statement M
 inv-quintuples-spec =
     tie.close
-    (tie.spec invariant-loop decreases-loop (λ c κs. tt) returns mul-i add-i loop-holds (λ c. omega arith) (λ c. omega arith) (λ c. omega arith) (λ c. omega arith) (λ c. omega arith) (λ c. omega arith) (λ c κs. tt) (λ c. omega arith) loop-again returns-2)
+    (tie.spec invariant-loop decreases-loop (λ c κs. tt) returns mul-i add-i loop-holds (λ c. omega arith) (λ c. omega arith) (λ c. omega arith) (λ c. omega arith) (λ c. omega arith) (λ c. omega arith) (λ c κs. tt) (λ c. omega arith) loop-again returns_2)

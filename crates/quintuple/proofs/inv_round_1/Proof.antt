@@ -4,7 +4,7 @@ use Rattle.published.specs.Rounds.{P}
 use Rattle.primitives.specs.Words.{ror_in}
 use Rattle.round_words.specs.Arranged.{N, nibble_at}
 use Rattle.quintuple.specs.Inner.{unmove}
-use Rattle.quintuple.proofs.Shapes.{is-unsubround}
+use Rattle.quintuple.proofs.Shapes.{is_unsubround}
 use Rattle.quintuple.proofs.inv_round_1.Statement.{statement}
 use Rattle.quintuple.proofs.inv_round_1.Tie as tie
 
@@ -19,7 +19,7 @@ returns c =
     let c6 = c5.before in
     let c7 = c6.before in
     let c8 = c7.before in
-    is-unsubround 1 (ror_in 16 12) (ror_in 16 8) (ror_in 16 4) tt tt tt c8.args.s c1.inv-sbox.result _ c7.half-ror-12.result c5.half-ror-8.result c3.half-ror-4.result
+    is_unsubround 1 (ror_in 16 12) (ror_in 16 8) (ror_in 16 4) tt tt tt c8.args.s c1.inv-sbox.result _ c7.half-ror-12.result c5.half-ror-8.result c3.half-ror-4.result
     c8.args.v c8.args.u c8.args.c c7.half-ror-12.ensures c5.half-ror-8.ensures c3.half-ror-4.ensures c1.inv-sbox.ensures c.exchanged.ensures
 
 pub inv-round-1-spec : {M : Type 1} → statement M

@@ -8,7 +8,7 @@ use Rattle.primitives.specs.Words.{ror_in}
 use Rattle.primitives.proofs.Swaps.{exchange}
 use Rattle.round_words.specs.Arranged.{N, nibble_at}
 use Rattle.quintuple.specs.Inner.{unmove}
-use Rattle.quintuple.proofs.Shapes.{is-unsubround, one-after, swapped}
+use Rattle.quintuple.proofs.Shapes.{is_unsubround, one_after, swapped}
 use Rattle.quintuple.proofs.inv_round_2.Statement.{statement}
 use Rattle.quintuple.proofs.inv_round_2.Tie as tie
 
@@ -26,12 +26,12 @@ returns c =
     let c9 = c8.before in
     let c10 = c9.before in
     let s : State = c10.args.s in
-    is-unsubround 2 (λ i. exchange 0x55550000 1 (ror_in 32 16 i)) (exchange 0x55555555 1) (λ i. exchange 0x00005555 1 (ror_in 32 16 i)) tt tt tt s c1.inv-sbox.result _
+    is_unsubround 2 (λ i. exchange 0x55550000 1 (ror_in 32 16 i)) (exchange 0x55555555 1) (λ i. exchange 0x00005555 1 (ror_in 32 16 i)) tt tt tt s c1.inv-sbox.result _
     c4.ror.result c7.swapmovesingle2.result c3.ror2.result c10.args.v c10.args.u c10.args.c
-    (one-after (ror_in 32 16) (exchange 0x55550000 1) tt s.s3 c9.swapmovesingle.result _ (swapped 0x55550000 1 tt s.s3 _ c9.swapmovesingle.ensures)
+    (one_after (ror_in 32 16) (exchange 0x55550000 1) tt s.s3 c9.swapmovesingle.result _ (swapped 0x55550000 1 tt s.s3 _ c9.swapmovesingle.ensures)
     c4.ror.ensures)
     (swapped 0x55555555 1 tt (bit_xor s.s1 c10.args.v) _ c7.swapmovesingle2.ensures)
-    (one-after (ror_in 32 16) (exchange 0x00005555 1) tt (bit_xor s.s2 c10.args.u) c5.swapmovesingle3.result _
+    (one_after (ror_in 32 16) (exchange 0x00005555 1) tt (bit_xor s.s2 c10.args.u) c5.swapmovesingle3.result _
     (swapped 0x00005555 1 tt (bit_xor s.s2 c10.args.u) _ c5.swapmovesingle3.ensures) c3.ror2.ensures)
     c1.inv-sbox.ensures c.exchanged.ensures
 

@@ -4,7 +4,7 @@ use Rattle.published.specs.Rounds.{P}
 use Rattle.primitives.specs.Words.{ror_in}
 use Rattle.round_words.specs.Arranged.{N, nibble_at}
 use Rattle.quintuple.specs.Inner.{unmove}
-use Rattle.quintuple.proofs.Shapes.{is-unsubround}
+use Rattle.quintuple.proofs.Shapes.{is_unsubround}
 use Rattle.quintuple.proofs.inv_round_3.Statement.{statement}
 use Rattle.quintuple.proofs.inv_round_3.Tie as tie
 
@@ -19,7 +19,7 @@ returns c =
     let c6 = c5.before in
     let c7 = c6.before in
     let c8 = c7.before in
-    is-unsubround 3 (ror_in 8 2) (ror_in 8 4) (ror_in 8 6) tt tt tt c8.args.s c1.inv-sbox.result _ c7.byte-ror-2.result c5.byte-ror-4.result c3.byte-ror-6.result
+    is_unsubround 3 (ror_in 8 2) (ror_in 8 4) (ror_in 8 6) tt tt tt c8.args.s c1.inv-sbox.result _ c7.byte-ror-2.result c5.byte-ror-4.result c3.byte-ror-6.result
     c8.args.v c8.args.u c8.args.c c7.byte-ror-2.ensures c5.byte-ror-4.ensures c3.byte-ror-6.ensures c1.inv-sbox.ensures c.exchanged.ensures
 
 pub inv-round-3-spec : {M : Type 1} → statement M

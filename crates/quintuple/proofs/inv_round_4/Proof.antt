@@ -4,7 +4,7 @@ use Rattle.published.specs.Rounds.{P}
 use Rattle.primitives.specs.Words.{ror_in}
 use Rattle.round_words.specs.Arranged.{N, nibble_at}
 use Rattle.quintuple.specs.Inner.{unmove}
-use Rattle.quintuple.proofs.Shapes.{is-unsubround}
+use Rattle.quintuple.proofs.Shapes.{is_unsubround}
 use Rattle.quintuple.proofs.inv_round_4.Statement.{statement}
 use Rattle.quintuple.proofs.inv_round_4.Tie as tie
 
@@ -19,7 +19,7 @@ returns c =
     let c6 = c5.before in
     let c7 = c6.before in
     let c8 = c7.before in
-    is-unsubround 4 (ror_in 32 8) (ror_in 32 16) (ror_in 32 24) tt tt tt c8.args.s c1.inv-sbox.result _ c7.ror.result c5.ror2.result c3.ror3.result
+    is_unsubround 4 (ror_in 32 8) (ror_in 32 16) (ror_in 32 24) tt tt tt c8.args.s c1.inv-sbox.result _ c7.ror.result c5.ror2.result c3.ror3.result
     c8.args.v c8.args.u c8.args.c c7.ror.ensures c5.ror2.ensures c3.ror3.ensures c1.inv-sbox.ensures c.exchanged.ensures
 
 pub inv-round-4-spec : {M : Type 1} → statement M

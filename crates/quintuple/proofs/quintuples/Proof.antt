@@ -58,13 +58,13 @@ loop-again c =
           ∙ l.invariant.4 (suc m) (omega arith),
     )
 
-returns-2 : tie.Need-returns-2 invariant-loop decreases-loop
+returns_2 : tie.Need-returns-2 invariant-loop decreases-loop
 unfolding several
-returns-2 c =
+returns_2 c =
     let at = c.before.before in
     c.before.loop.invariant.4 0 (omega arith) ∙ sym (cond-true _ _ _ (told-true at.before.reaches.ensures at.if1.false))
 
 pub quintuples-spec : {M : Type 1} → statement M
 quintuples-spec =
     tie.close
-    (tie.spec invariant-loop decreases-loop (λ c κs. tt) returns mul-to add-to loop-holds (λ c. omega arith) (λ c. omega arith) (λ c. omega arith) (λ c. omega arith) (λ c. omega arith) (λ c κs. tt) (λ c. omega arith) (λ c. omega arith) loop-again returns-2)
+    (tie.spec invariant-loop decreases-loop (λ c κs. tt) returns mul-to add-to loop-holds (λ c. omega arith) (λ c. omega arith) (λ c. omega arith) (λ c. omega arith) (λ c. omega arith) (λ c κs. tt) (λ c. omega arith) (λ c. omega arith) loop-again returns_2)

@@ -1,17 +1,17 @@
 -- `quintuple::reaches` makes the tests of `reach`, one by one.
 use mathlib.Core.Path.{sym}
 use borrow.Author.Rules.{rules}
-use Rattle.quintuple.proofs.Several.{in_reach, other-count, too_late, too_many}
+use Rattle.quintuple.proofs.Several.{in_reach, other_count, too_late, too_many}
 use Rattle.quintuple.proofs.reaches.Statement.{statement}
 use Rattle.quintuple.proofs.reaches.Tie as tie
 
 returns : tie.Need-returns
 returns c =
     let a = c.before.args in
-    sym (other-count a.rkey.now a.from a.n c.if1.true)
+    sym (other_count a.rkey.now a.from a.n c.if1.true)
 
-returns-2 : tie.Need-returns-2
-returns-2 c =
+returns_2 : tie.Need-returns-2
+returns_2 c =
     let a = c.before.before.args in
     sym (too_late a.rkey.now a.from a.n c.before.if1.false c.if2.true)
 
@@ -26,4 +26,4 @@ returns-4 c =
     sym (in_reach a.rkey.now a.from a.n c.before.before.if1.false c.before.if2.false c.if3.false)
 
 pub reaches-spec : {M : Type 1} → statement M
-reaches-spec = tie.close (tie.spec returns returns-2 returns-3 (λ c. search rules) (λ c. search rules) returns-4)
+reaches-spec = tie.close (tie.spec returns returns_2 returns-3 (λ c. search rules) (λ c. search rules) returns-4)

@@ -4,7 +4,7 @@ use Rattle.published.specs.Rounds.{P}
 use Rattle.primitives.specs.Words.{ror_in}
 use Rattle.round_words.specs.Arranged.{N, nibble_at}
 use Rattle.quintuple.specs.Inner.{move}
-use Rattle.quintuple.proofs.Shapes.{is-subround}
+use Rattle.quintuple.proofs.Shapes.{is_subround}
 use Rattle.quintuple.proofs.round_0.Statement.{statement}
 use Rattle.quintuple.proofs.round_0.Tie as tie
 
@@ -16,7 +16,7 @@ returns c =
     let c3 = c2.before in
     let c4 = c3.before in
     let c5 = c4.before in
-    is-subround 0 (ror_in 4 1) (ror_in 4 2) (ror_in 4 3) tt tt tt c5.args.s c4.sbox.result c2.nibble-ror-2.result c1.nibble-ror-3.result c3.nibble-ror-1.result
+    is_subround 0 (ror_in 4 1) (ror_in 4 2) (ror_in 4 3) tt tt tt c5.args.s c4.sbox.result c2.nibble-ror-2.result c1.nibble-ror-3.result c3.nibble-ror-1.result
     c5.args.v c5.args.u c5.args.c c4.sbox.ensures c3.nibble-ror-1.ensures c2.nibble-ror-2.ensures c1.nibble-ror-3.ensures
 
 pub round-0-spec : {M : Type 1} → statement M

@@ -4,7 +4,7 @@ use Rattle.published.specs.Rounds.{P}
 use Rattle.primitives.specs.Words.{ror_in}
 use Rattle.round_words.specs.Arranged.{N, nibble_at}
 use Rattle.quintuple.specs.Inner.{move}
-use Rattle.quintuple.proofs.Shapes.{is-subround}
+use Rattle.quintuple.proofs.Shapes.{is_subround}
 use Rattle.quintuple.proofs.round_1.Statement.{statement}
 use Rattle.quintuple.proofs.round_1.Tie as tie
 
@@ -16,7 +16,7 @@ returns c =
     let c3 = c2.before in
     let c4 = c3.before in
     let c5 = c4.before in
-    is-subround 1 (ror_in 16 4) (ror_in 16 8) (ror_in 16 12) tt tt tt c5.args.s c4.sbox.result c2.half-ror-8.result c1.half-ror-12.result c3.half-ror-4.result
+    is_subround 1 (ror_in 16 4) (ror_in 16 8) (ror_in 16 12) tt tt tt c5.args.s c4.sbox.result c2.half-ror-8.result c1.half-ror-12.result c3.half-ror-4.result
     c5.args.v c5.args.u c5.args.c c4.sbox.ensures c3.half-ror-4.ensures c2.half-ror-8.ensures c1.half-ror-12.ensures
 
 pub round-1-spec : {M : Type 1} → statement M

@@ -4,7 +4,7 @@ use Rattle.published.specs.Rounds.{P}
 use Rattle.primitives.specs.Words.{ror_in}
 use Rattle.round_words.specs.Arranged.{N, nibble_at}
 use Rattle.quintuple.specs.Inner.{move}
-use Rattle.quintuple.proofs.Shapes.{is-subround}
+use Rattle.quintuple.proofs.Shapes.{is_subround}
 use Rattle.quintuple.proofs.round_4.Statement.{statement}
 use Rattle.quintuple.proofs.round_4.Tie as tie
 
@@ -16,7 +16,7 @@ returns c =
     let c3 = c2.before in
     let c4 = c3.before in
     let c5 = c4.before in
-    is-subround 4 (ror_in 32 24) (ror_in 32 16) (ror_in 32 8) tt tt tt c5.args.s c4.sbox.result c2.ror2.result c1.ror3.result c3.ror.result
+    is_subround 4 (ror_in 32 24) (ror_in 32 16) (ror_in 32 8) tt tt tt c5.args.s c4.sbox.result c2.ror2.result c1.ror3.result c3.ror.result
     c5.args.v c5.args.u c5.args.c c4.sbox.ensures c3.ror.ensures c2.ror2.ensures c1.ror3.ensures
 
 pub round-4-spec : {M : Type 1} → statement M

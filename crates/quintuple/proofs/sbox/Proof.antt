@@ -5,9 +5,9 @@ use Rattle.bits.proofs.Reflect.{W, var, lit, and, or, xor}
 use Rattle.published.specs.Rounds.{entry}
 use Rattle.primitives.specs.declared.State.{State}
 use Rattle.primitives.specs.Packed.{Words}
-use Rattle.primitives.proofs.Blocks.{same-words}
+use Rattle.primitives.proofs.Blocks.{same_words}
 use Rattle.quintuple.specs.Boxes.{boxed}
-use Rattle.quintuple.proofs.Columns.{through-table}
+use Rattle.quintuple.proofs.Columns.{through_table}
 use Rattle.quintuple.proofs.sbox.Statement.{statement}
 use Rattle.quintuple.proofs.sbox.Tie as tie
 
@@ -38,8 +38,8 @@ unfolding boxed bit digit of_bits number entry
 returns c =
     let s : State = c.args.s in
     let h : Words s = search rules in
-    same-words _ _ (through-table entry a0 tt tt 3 tt s h) (through-table entry b1 tt tt 1 tt s h) (through-table entry b2 tt tt 2 tt s h)
-    (through-table entry b3 tt tt 0 tt s h)
+    same_words _ _ (through_table entry a0 tt tt 3 tt s h) (through_table entry b1 tt tt 1 tt s h) (through_table entry b2 tt tt 2 tt s h)
+    (through_table entry b3 tt tt 0 tt s h)
 
 pub sbox-spec : {M : Type 1} → statement M
 sbox-spec = tie.close (tie.spec returns)

@@ -9,8 +9,8 @@ returns c =
     let a = c.before.args in
     sym (too_few a.rkey.now a.i c.if1.true)
 
-returns-2 : tie.Need-returns-2
-returns-2 c =
+returns_2 : tie.Need-returns-2
+returns_2 c =
     let a = c.before.before.args in
     sym (too_far a.rkey.now a.i c.if2.true)
 
@@ -20,4 +20,4 @@ returns-3 c =
     sym (enough a.rkey.now a.i c.before.if1.false c.if2.false)
 
 pub starts-spec : {M : Type 1} → statement M
-starts-spec = tie.close (tie.spec returns returns-2 returns-3)
+starts-spec = tie.close (tie.spec returns returns_2 returns-3)

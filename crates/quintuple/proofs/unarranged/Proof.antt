@@ -6,7 +6,7 @@ use Rattle.bits.specs.Digit.{bit, digit}
 use Rattle.published.specs.Rounds.{P}
 use Rattle.primitives.proofs.Swaps.{exchange}
 use Rattle.round_words.specs.Arranged.{N, nibble_at, stands}
-use Rattle.quintuple.proofs.Shapes.{same_move, swapped, one-after}
+use Rattle.quintuple.proofs.Shapes.{same_move, swapped, one_after}
 use Rattle.quintuple.proofs.unarranged.Statement.{statement}
 use Rattle.quintuple.proofs.unarranged.Tie as tie
 
@@ -22,9 +22,9 @@ returns c =
     let r = exchange 0x000f000f 12 in
     let s = exchange 0x00550055 9 in
     let first = swapped 0x000000ff 24 tt x c3.swapmovesingle.result c3.swapmovesingle.ensures in
-    let second = one-after q p tt x _ c2.swapmovesingle2.result first (swapped 0x00003333 18 tt _ _ c2.swapmovesingle2.ensures) in
-    let third = one-after r (λ i. p (q i)) tt x _ c1.swapmovesingle3.result second (swapped 0x000f000f 12 tt _ _ c1.swapmovesingle3.ensures) in
-    let fourth = one-after s (λ i. p (q (r i))) tt x _ c.swapmovesingle4.result third (swapped 0x00550055 9 tt _ _ c.swapmovesingle4.ensures) in
+    let second = one_after q p tt x _ c2.swapmovesingle2.result first (swapped 0x00003333 18 tt _ _ c2.swapmovesingle2.ensures) in
+    let third = one_after r (λ i. p (q i)) tt x _ c1.swapmovesingle3.result second (swapped 0x000f000f 12 tt _ _ c1.swapmovesingle3.ensures) in
+    let fourth = one_after s (λ i. p (q (r i))) tt x _ c.swapmovesingle4.result third (swapped 0x00550055 9 tt _ _ c.swapmovesingle4.ensures) in
     same_move (λ i. p (q (r (s i)))) (nibble_at 4) tt x x c.swapmovesingle4.result fourth refl
 
 pub unarranged-spec : {M : Type 1} → statement M

@@ -10,8 +10,8 @@ use Rattle.round_words.proofs.arrange.Tie as tie
 returns : tie.Need-returns
 returns c = c.rearrange-rkey-0.ensures ∙ ap (λ (j : ℕ). arranged j c.before.before.args.w) (sym c.before.if1.true)
 
-returns-2 : tie.Need-returns-2
-returns-2 c = c.rearrange-rkey-1.ensures ∙ ap (λ (j : ℕ). arranged j c.before.before.before.args.w) (sym c.before.if2.true)
+returns_2 : tie.Need-returns-2
+returns_2 c = c.rearrange-rkey-1.ensures ∙ ap (λ (j : ℕ). arranged j c.before.before.before.args.w) (sym c.before.if2.true)
 
 returns-3 : tie.Need-returns-3
 returns-3 c = c.rearrange-rkey-2.ensures ∙ ap (λ (j : ℕ). arranged j c.before.before.before.before.args.w) (sym c.before.if3.true)
@@ -27,4 +27,4 @@ returns-5 c =
 pub arrange-spec : {M : Type 1} → statement M
 arrange-spec =
     tie.close
-    (tie.spec (λ c κs. search rules) returns (λ c κs. search rules) returns-2 (λ c κs. search rules) returns-3 (λ c κs. search rules) returns-4 returns-5)
+    (tie.spec (λ c κs. search rules) returns (λ c κs. search rules) returns_2 (λ c κs. search rules) returns-3 (λ c κs. search rules) returns-4 returns-5)

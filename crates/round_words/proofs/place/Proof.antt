@@ -8,9 +8,9 @@ returns : tie.Need-returns
 unfolding place_in
 returns c = rw c.if1.true
 
-returns-2 : tie.Need-returns-2
+returns_2 : tie.Need-returns-2
 unfolding place_in
-returns-2 c = rw c.if1.false
+returns_2 c = rw c.if1.false
 
 pub place-spec : {M : Type 1} → statement M
-place-spec = tie.close (tie.spec (λ c. omega arith) returns (λ c. omega arith) returns-2)
+place-spec = tie.close (tie.spec (λ c. omega arith) returns (λ c. omega arith) returns_2)

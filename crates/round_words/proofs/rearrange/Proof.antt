@@ -5,7 +5,7 @@ use Prim.Native.Nat.{ℕ, ◌-◌, ◌≤◌}
 use native.Mathlib.Omega.{arith}
 use lib.ListN.{length, get_or, length-set}
 use borrow.Author.Rules.{rules}
-use Rattle.bits.proofs.Filling.{written, written-more, written_all}
+use Rattle.bits.proofs.Filling.{written, written_more, written_all}
 use Rattle.round_words.specs.Arranged.{arranged}
 use Rattle.round_words.specs.Inner.{rearranged}
 use Rattle.round_words.proofs.Rows.{length-rearranged, at_place, place-lt}
@@ -34,7 +34,7 @@ loop-again c =
     let old : List ℕ = start.args.out.now in
     let whole = length-rearranged back xs ∙ start.requires.0 ∙ sym start.requires.1 in
     let made = c.arrange.ensures ∙ ap (λ (k : ℕ). arranged k (get_or xs l.i 0)) placed.place.ensures ∙ sym (at_place back xs l.i (omega arith)) in
-    (omega arith, simp length-set l.invariant.1, written-more (rearranged back xs) old l.out l.i c.arrange.result whole (omega arith) l.invariant.2 made)
+    (omega arith, simp length-set l.invariant.1, written_more (rearranged back xs) old l.out l.i c.arrange.result whole (omega arith) l.invariant.2 made)
 
 same_length : tie.Need-same-length invariant-loop decreases-loop
 same_length c = c.before.loop.invariant.1 ∙ sym c.before.before.before.before.requires.1

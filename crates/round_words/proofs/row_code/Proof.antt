@@ -8,9 +8,9 @@ returns : tie.Need-returns
 unfolding row_code
 returns c = rw (ne_eqb _ 80 c.if1.true)
 
-returns-2 : tie.Need-returns-2
+returns_2 : tie.Need-returns-2
 unfolding row_code
-returns-2 c =
+returns_2 c =
     let a = c.before.before.args in
     rw (eq-eqb a.given 80 c.before.if1.false, ne_eqb a.out a.given c.if2.true)
 
@@ -21,4 +21,4 @@ returns-3 c =
     rw (eq-eqb a.given 80 c.before.if1.false, eq-eqb a.out a.given c.if2.false)
 
 pub row-code-spec : {M : Type 1} → statement M
-row-code-spec = tie.close (tie.spec returns returns-2 returns-3)
+row-code-spec = tie.close (tie.spec returns returns_2 returns-3)

@@ -14,11 +14,11 @@ rearrange-requires c κs =
     let at = c.before in
     row-passed _ _ (sym at.before.row-code.ensures ∙ at.if1.false)
 
-returns-2 : tie.Need-returns-2
-returns-2 c =
+returns_2 : tie.Need-returns-2
+returns_2 c =
     let at = c.before.before.before.before in
     let passed = row-passed _ _ (sym at.before.row-code.ensures ∙ at.if1.false) in
     done at.before.row-code.ensures at.if1.false (c.before.before.rearrange.ensures ∙ words-told _ passed.0)
 
 pub words-spec : {M : Type 1} → statement M
-words-spec = tie.close (tie.spec (λ c κs. search rules) returns rearrange-requires (λ c. search rules) returns-2)
+words-spec = tie.close (tie.spec (λ c κs. search rules) returns rearrange-requires (λ c. search rules) returns_2)

@@ -11,7 +11,7 @@ use Rattle.bits.proofs.Computed.{cond-true, cond-false}
 use Rattle.published.specs.Blocks.{each_of}
 use Rattle.published.specs.Gift128.{rounds_all}
 use Rattle.published.specs.Seen.{seen}
-use Rattle.published.proofs.Groups.{all-written}
+use Rattle.published.proofs.Groups.{all_written}
 use Rattle.published.proofs.Seen.{orders}
 use Rattle.published.proofs.Parts.{first_part, ended}
 use Rattle.round_words.specs.Arranged.{pairs_from}
@@ -22,8 +22,8 @@ use Rattle.slices.proofs.all_groups.Tie as tie
 inside : (x y z : ℕ) → y ≡ z → x ≤ z → x ≤ y
 inside x y z e h = omega arith
 
-returns-2 : tie.Need-returns-2
-returns-2 c = sym (cond-false _ _ _ (told-false c.before.in-groups.ensures c.if2.true))
+returns_2 : tie.Need-returns-2
+returns_2 c = sym (cond-false _ _ _ (told-false c.before.in-groups.ensures c.if2.true))
 
 part-wide-groups-end-2 : tie.Need-slice-bounds-wide-groups-end-2
 part-wide-groups-end-2 c =
@@ -59,7 +59,7 @@ returns-3 c =
     let same₁ : length out₁ ≡ length input = same_len_mid 0 (m - 0) out first.new.1.1.1.0 first.auto.1.1.1.0 ∙ same in
     let n' : length (take (m - 0) out) ≡ m = simp length-take (omega arith) in
     let done : take m out₁ ≡ each_of 16 f (m / 16) input = first_part f input out first.new.1.1.1.0 m (omega arith) (omega arith) same (first.auto.1.1.1.0 ∙ n') first.ensures in
-    all-written f input out₁ m c.if3.true same₁ done ∙ sym (cond-true _ _ _ told)
+    all_written f input out₁ m c.if3.true same₁ done ∙ sym (cond-true _ _ _ told)
 
 lanes-from-requires : tie.Need-lanes-from-requires
 lanes-from-requires c κs =
@@ -116,6 +116,6 @@ returns-4 c =
 pub all-groups-spec : {M : Type 1} → statement M
 all-groups-spec =
     tie.close
-    (tie.spec (λ c κs. search rules) (λ c. search rules) (λ c. c.before.before.groups.ensures) (λ c κs. search rules) returns-2 (λ c. search rules) (λ c. search rules) (λ c. search rules) (λ c. search rules) (λ c. search rules)
+    (tie.spec (λ c κs. search rules) (λ c. search rules) (λ c. c.before.before.groups.ensures) (λ c κs. search rules) returns_2 (λ c. search rules) (λ c. search rules) (λ c. search rules) (λ c. search rules) (λ c. search rules)
     (λ c. search rules) part-wide-groups-end-2 wide-groups-requires (λ c. search rules) returns-3 lanes-from-requires (λ c. omega arith) (λ c. omega arith) (λ c. omega arith) sub-groups-2 part-groups-start-2 (λ c. search rules) (λ c κs. search rules)
     (λ c. search rules) returns-4)

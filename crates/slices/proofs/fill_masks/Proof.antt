@@ -5,8 +5,8 @@ use native.Mathlib.Omega.{arith}
 use lib.ListN.{length}
 use borrow.Rule.Slice.PartMut.{same_len_mid}
 use Rattle.bits.proofs.Fills.{Fills, fills_none}
-use Rattle.published.proofs.Many.{one-part}
-use Rattle.slices.proofs.Keys.{MaskAt, fills_part, word-masks, all-masks}
+use Rattle.published.proofs.Many.{one_part}
+use Rattle.slices.proofs.Keys.{MaskAt, fills_part, word-masks, all_masks}
 use Rattle.slices.proofs.fill_masks.Statement.{statement}
 use Rattle.slices.proofs.fill_masks.Tie as tie
 
@@ -24,7 +24,7 @@ asks c κs =
     let l = c.before.before.before.before.loop in
     let start = c.before.before.before.before.before.before.before.before in
     let size : length start.args.places.now ≡ 160 = start.requires.0.1 in
-    (one-part 32 (32 * (l.r / 2 % 5)) start.args.places.now (omega arith), one-part 32 (32 * l.r) l.masks (omega arith))
+    (one_part 32 (32 * (l.r / 2 % 5)) start.args.places.now (omega arith), one_part 32 (32 * l.r) l.masks (omega arith))
 
 loop-again : tie.Need-loop-preserved invariant-loop decreases-loop
 loop-again c =
@@ -32,7 +32,7 @@ loop-again c =
     let l = c.before.before.before.before.before.before.before.loop in
     let start = c.before.before.before.before.before.before.before.before.before.before.before in
     let new = call.new.1.1.0 in
-    let len : length new ≡ 32 = call.auto.1.1.0 ∙ one-part 32 (32 * l.r) l.masks (omega arith) in (
+    let len : length new ≡ 32 = call.auto.1.1.0 ∙ one_part 32 (32 * l.r) l.masks (omega arith) in (
       omega arith,
       same_len_mid (32 * l.r) (32 * l.r + 32 - 32 * l.r) l.masks new call.auto.1.1.0 ∙ l.invariant.1,
       fills_part (32 * l.r) 32 (32 * (l.r + 1)) l.masks new _ (omega arith) len (omega arith)
@@ -40,7 +40,7 @@ loop-again c =
     )
 
 returns : tie.Need-returns invariant-loop decreases-loop
-returns c = let l = c.before.loop in all-masks c.before.before.before.before.before.args.rkey.now l.masks (32 * l.r) (omega arith) l.invariant.1 l.invariant.2
+returns c = let l = c.before.loop in all_masks c.before.before.before.before.before.args.rkey.now l.masks (32 * l.r) (omega arith) l.invariant.1 l.invariant.2
 
 pub fill-masks-spec : {M : Type 1} → statement M
 fill-masks-spec =

@@ -3,7 +3,7 @@ use mathlib.Core.Path.{◌≡◌, refl, ◌∙◌}
 use Prim.Native.Nat.{◌-◌, ◌%◌, ◌≤◌, ◌<◌}
 use native.Mathlib.Omega.{arith}
 use lib.ListN.{length}
-use Rattle.slices.proofs.Rounding.{Rest, rest_all, rest-less, rest-none, constant-at, constant-next}
+use Rattle.slices.proofs.Rounding.{Rest, rest_all, rest_less, rest_none, constant_at_lem, constant_next}
 use Rattle.slices.proofs.forty.Statement.{statement}
 use Rattle.slices.proofs.forty.Tie as tie
 
@@ -20,17 +20,17 @@ asks : tie.Need-two-rounds-requires invariant-loop decreases-loop
 asks c κs =
     let l = c.before.before.before.loop in
     let under : l.r < 39 = omega arith in
-    ((l.invariant.2, c.before.before.before.before.before.before.before.requires.1, l.invariant.3, under), (constant-at l.r (omega arith), constant-next l.r under))
+    ((l.invariant.2, c.before.before.before.before.before.before.before.requires.1, l.invariant.3, under), (constant_at_lem l.r (omega arith), constant_next l.r under))
 
 loop-again : tie.Need-loop-preserved invariant-loop decreases-loop
 loop-again c =
     let l = c.before.before.before.before.before.before.before.before.loop in
     let two = c.before.before.before.before.two-rounds in
-    let more = rest-less c.before.before.before.before.before.before.before.before.before.before.before.before.args.masks.now c.before.before.before.before.before.before.before.before.before.before.before.before.args.x.now l.r l.invariant.4 two.ensures in
+    let more = rest_less c.before.before.before.before.before.before.before.before.before.before.before.before.args.masks.now c.before.before.before.before.before.before.before.before.before.before.before.before.args.x.now l.r l.invariant.4 two.ensures in
     (omega arith, omega arith, more.size, two.auto.1.0 ∙ l.invariant.3, more)
 
 returns : tie.Need-returns invariant-loop decreases-loop
-returns c = let l = c.before.loop in rest-none c.before.before.before.before.before.args.masks.now c.before.before.before.before.before.args.x.now l.x l.r (omega arith) l.invariant.4
+returns c = let l = c.before.loop in rest_none c.before.before.before.before.before.args.masks.now c.before.before.before.before.before.args.x.now l.x l.r (omega arith) l.invariant.4
 
 pub forty-spec : {M : Type 1} → statement M
 forty-spec =

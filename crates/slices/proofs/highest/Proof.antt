@@ -3,14 +3,14 @@ use mathlib.Core.Path.{refl}
 use mathlib.Core.Bool.{true, false}
 use lib.Dec.{eqb, lit<}
 use borrow.Author.Rules.{rules}
-use Rattle.slices.proofs.Flips.{bit-everywhere, flip-none, flip, highest_others}
+use Rattle.slices.proofs.Flips.{bit-everywhere, flip_none, flip, highest_others}
 use Rattle.slices.proofs.highest.Statement.{statement}
 use Rattle.slices.proofs.highest.Tie as tie
 
 returns : tie.Need-returns
 returns c =
     flip (λ q. false) (λ q. eqb q 127) 127 0xffffffffffffffff true (lit< tt) (bit-everywhere true) highest_others refl
-    (flip-none (λ q. false) c.before.args.y.now c.before.requires (λ q. refl))
+    (flip_none (λ q. false) c.before.args.y.now c.before.requires (λ q. refl))
 
 pub highest-spec : {M : Type 1} → statement M
 highest-spec = tie.close (tie.spec (λ c. search rules) (λ c. search rules) (λ c. search rules) returns)

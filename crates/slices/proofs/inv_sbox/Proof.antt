@@ -1,9 +1,9 @@
 -- `slices::inv_sbox` is the table, by a test at the sixteen nibbles for each of its four words.
 use Rattle.bits.specs.Digit.{bit, digit, of_bits, number}
 use Rattle.bits.proofs.Reflect.{W, var, lit, and, or, xor}
-use Rattle.bits.proofs.Columns.{through-table}
+use Rattle.bits.proofs.Columns.{through_table}
 use Rattle.published.specs.Inner.{unentry}
-use Rattle.slices.proofs.Nibbles.{boxed-by}
+use Rattle.slices.proofs.Nibbles.{boxed_by}
 use Rattle.slices.proofs.inv_sbox.Statement.{statement}
 use Rattle.slices.proofs.inv_sbox.Tie as tie
 
@@ -33,8 +33,8 @@ returns : tie.Need-returns
 unfolding bit digit of_bits number unentry
 returns c =
     let s = c.args.s in
-    boxed-by unentry s _ (through-table 64 unentry b3 tt 0 tt s.s0 s.s1 s.s2 s.s3) (through-table 64 unentry b1 tt 1 tt s.s0 s.s1 s.s2 s.s3)
-    (through-table 64 unentry b2 tt 2 tt s.s0 s.s1 s.s2 s.s3) (through-table 64 unentry b0 tt 3 tt s.s0 s.s1 s.s2 s.s3)
+    boxed_by unentry s _ (through_table 64 unentry b3 tt 0 tt s.s0 s.s1 s.s2 s.s3) (through_table 64 unentry b1 tt 1 tt s.s0 s.s1 s.s2 s.s3)
+    (through_table 64 unentry b2 tt 2 tt s.s0 s.s1 s.s2 s.s3) (through_table 64 unentry b0 tt 3 tt s.s0 s.s1 s.s2 s.s3)
 
 pub inv-sbox-spec : {M : Type 1} → statement M
 inv-sbox-spec = tie.close (tie.spec returns)

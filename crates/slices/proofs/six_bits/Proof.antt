@@ -7,7 +7,7 @@ use Rattle.bits.specs.Digit.{bit}
 use Rattle.bits.proofs.Computed.{agree}
 use Rattle.published.specs.Rounds.{xored}
 use Rattle.slices.specs.Inner.{Lanes, constant_bits, mask_by}
-use Rattle.slices.proofs.Flips.{bit-everywhere, mask_is, flip-none, flip, no_bits, next-others, next_here}
+use Rattle.slices.proofs.Flips.{bit-everywhere, mask_is, flip_none, flip, no_bits, next_others, next_here}
 use Rattle.slices.proofs.six_bits.Statement.{statement}
 use Rattle.slices.proofs.six_bits.Tie as tie
 
@@ -18,7 +18,7 @@ abbrev decreases-loop : tie.decreases-loop
 decreases-loop y₀ c i₀ y i = 6 - i
 
 loop-holds : tie.Need-loop-init invariant-loop decreases-loop
-loop-holds c = (omega arith, c.before.requires, flip-none (constant_bits 0 c.before.args.c) _ c.before.requires (no_bits c.before.args.c))
+loop-holds c = (omega arith, c.before.requires, flip_none (constant_bits 0 c.before.args.c) _ c.before.requires (no_bits c.before.args.c))
 
 loop-again : tie.Need-loop-preserved invariant-loop decreases-loop
 loop-again c =
@@ -27,7 +27,7 @@ loop-again c =
     let one : 1 * 2 ^ l.i % 2 ^ 32 ≡ 2 ^ l.i = agree 6 (λ i. 1 * 2 ^ i % 2 ^ 32) (λ i. 2 ^ i) tt l.i (omega arith) in
     let more =
     flip (constant_bits l.i k) (constant_bits (l.i + 1) k) (4 * l.i + 3) c.before.mask.result (bit k l.i) (omega arith)
-    (λ b h. ap (λ (w : ℕ). bit w b) (c.before.mask.ensures ∙ ap (mask_by k) one ∙ mask_is k l.i) ∙ bit-everywhere (bit k l.i) b h) (next-others l.i k) (next_here l.i k) l.invariant.2 in
+    (λ b h. ap (λ (w : ℕ). bit w b) (c.before.mask.ensures ∙ ap (mask_by k) one ∙ mask_is k l.i) ∙ bit-everywhere (bit k l.i) b h) (next_others l.i k) (next_here l.i k) l.invariant.2 in
     (omega arith, more.size, more)
 
 returns : tie.Need-returns invariant-loop decreases-loop

@@ -1,6 +1,6 @@
 -- `slices::two_unrounds`: one, and the other.
 use borrow.Author.Rules.{rules}
-use Rattle.slices.proofs.Rounding.{parts, two-unmade}
+use Rattle.slices.proofs.Rounding.{parts, two_unmade}
 use Rattle.slices.proofs.two_unrounds.Statement.{statement}
 use Rattle.slices.proofs.two_unrounds.Tie as tie
 
@@ -8,7 +8,7 @@ returns : tie.Need-returns
 returns c =
     let start = c.before.before.before.before.before.before.before.before.before.before.before.before.before.before.before.before.before.before.before in
     let p = parts start.args.masks.now start.args.r in
-    two-unmade start.args.masks.now start.args.r p.0 p.1 start.requires.1.0 start.requires.1.1 c.before.before.before.before.before.before.before.before.before.before.before.before.unround.ensures c.before.before.before.before.unround2.ensures
+    two_unmade start.args.masks.now start.args.r p.0 p.1 start.requires.1.0 start.requires.1.1 c.before.before.before.before.before.before.before.before.before.before.before.before.unround.ensures c.before.before.before.before.unround2.ensures
 
 pub two-unrounds-spec : {M : Type 1} → statement M
 two-unrounds-spec =

@@ -9,13 +9,13 @@ use borrow.Rule.Slice.PartMut.{same_len_mid}
 use Rattle.published.specs.Blocks.{each_of}
 use Rattle.published.specs.Gift128.{rounds_all}
 use Rattle.published.specs.Seen.{seen}
-use Rattle.published.proofs.Many.{each_none, one-part}
-use Rattle.published.proofs.Groups.{all-written}
+use Rattle.published.proofs.Many.{each_none, one_part}
+use Rattle.published.proofs.Groups.{all_written}
 use Rattle.published.proofs.Parts.{group_more}
 use Rattle.round_words.specs.Arranged.{pairs_from}
 use Rattle.slices.specs.InnerMasks.{masks_of}
 use Rattle.slices.proofs.Keys.{masks-length}
-use Rattle.slices.proofs.Groups.{group_by-words}
+use Rattle.slices.proofs.Groups.{group_by_words}
 use Rattle.slices.proofs.wide_groups.Statement.{statement}
 use Rattle.slices.proofs.wide_groups.Tie as tie
 
@@ -38,7 +38,7 @@ asks c κs =
     let a = c.before.before.before.before.before.before.before.before.before.before.before.args in
     let room : q.a + 1024 ≤ length a.input.now = omega arith in
     let room' : q.a + 1024 ≤ length q.output = omega arith in
-    (ap length q.invariant.0 ∙ masks-length a.rkey.now, one-part 1024 q.a a.input.now room, one-part 1024 q.a q.output room')
+    (ap length q.invariant.0 ∙ masks-length a.rkey.now, one_part 1024 q.a a.input.now room, one_part 1024 q.a q.output room')
 
 loop-again : tie.Need-loop-preserved invariant-loop decreases-loop
 loop-again c =
@@ -47,7 +47,7 @@ loop-again c =
     let a = c.before.before.before.before.before.before.before.before.before.before.before.before.before.before.args in
     let input : List ℕ = a.input.now in
     let room : q.a + 1024 ≤ length q.output = omega arith in
-    let len : length call.new.1.1.1.0 ≡ 1024 = call.auto.1.1.1.0 ∙ one-part 1024 q.a q.output room in (
+    let len : length call.new.1.1.1.0 ≡ 1024 = call.auto.1.1.1.0 ∙ one_part 1024 q.a q.output room in (
       q.invariant.0,
       q.invariant.1,
       q.invariant.2,
@@ -56,14 +56,14 @@ loop-again c =
       omega arith,
       same_len_mid q.a (q.a + 1024 - q.a) q.output call.new.1.1.1.0 call.auto.1.1.1.0 ∙ q.invariant.6,
       group_more 64 1024 refl (seen a.order (rounds_all a.back (pairs_from 0 a.rkey.now))) input q.output call.new.1.1.1.0 _ q.a (omega arith) (omega arith) len q.invariant.7
-          (call.ensures ∙ group_by-words a.order a.back _ (take (q.a + 1024 - q.a) (drop q.a input)) a.rkey.now q.invariant.1 q.invariant.0),
+          (call.ensures ∙ group_by_words a.order a.back _ (take (q.a + 1024 - q.a) (drop q.a input)) a.rkey.now q.invariant.1 q.invariant.0),
     )
 
 returns : tie.Need-returns invariant-loop decreases-loop
 returns c =
     let q = c.before.loop in
     let a = c.before.before.before.before.before.before.before.before.args in
-    all-written (seen a.order (rounds_all a.back (pairs_from 0 a.rkey.now))) a.input.now q.output q.a (omega arith) (omega arith) q.invariant.7
+    all_written (seen a.order (rounds_all a.back (pairs_from 0 a.rkey.now))) a.input.now q.output q.a (omega arith) (omega arith) q.invariant.7
 
 pub wide-groups-spec : {M : Type 1} → statement M
 wide-groups-spec =

@@ -32,8 +32,8 @@ returns t c l e =
 push_decimal_requires : (t : ℕ) → lts.Need-push-decimal-requires (push.Asked, push.Learnt, below t, own.Post) (at t) own.Post
 push_decimal_requires t c κs = (omega arith, tt)
 
-returns-2 : (t : ℕ) → lts.Need-returns-2 (push.Asked, push.Learnt, below t, own.Post) (at t) own.Post
-returns-2 t c l e =
+returns_2 : (t : ℕ) → lts.Need-returns-2 (push.Asked, push.Learnt, below t, own.Post) (at t) own.Post
+returns_2 t c l e =
     let s = c.before.before.before in
     let n : ℕ = s.args.n in
     c.push2.ensures (l ++ decimal_of (n / 10)) (c.before.push-decimal.ensures l e)
@@ -45,4 +45,4 @@ pub +push-decimal-spec : {M : Type 1} → statement M
     close μ
     (λ t.
     lts.spec (push.Asked, push.Learnt, below t, own.Post) (at t) own.Post (λ c. omega arith) (λ c. omega arith) (λ c κs. tt) (returns t) (push_decimal_requires t) (λ c. omega arith)
-    (λ c κs. tt) (returns-2 t))
+    (λ c κs. tt) (returns_2 t))

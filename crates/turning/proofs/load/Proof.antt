@@ -2,7 +2,7 @@
 use Prim.Native.Nat.{◌-◌, ◌*◌, ◌≤◌}
 use native.Mathlib.Omega.{arith}
 use lib.ListN.{length-set}
-use Rattle.turning.proofs.Passes.{Up, up_none, HalfAt, block_more, all-halves}
+use Rattle.turning.proofs.Passes.{Up, up_none, HalfAt, block_more, all_halves}
 use Rattle.turning.proofs.load.Statement.{statement}
 use Rattle.turning.proofs.load.Tie as tie
 
@@ -21,7 +21,7 @@ loop-again c =
     (omega arith, block_more c.before.before.before.before.before.before.args.input.now l.x l.b c.before.half.result c.half2.result (omega arith) c.before.half.ensures c.half2.ensures l.invariant.1)
 
 returns : tie.Need-returns invariant-loop decreases-loop
-returns c = all-halves _ _ (2 * c.before.loop.b) (omega arith) c.before.loop.invariant.1
+returns c = all_halves _ _ (2 * c.before.loop.b) (omega arith) c.before.loop.invariant.1
 
 pub load_spec : {M : Type 1} → statement M
 load_spec =

@@ -2,7 +2,7 @@
 use Prim.Native.Nat.{◌-◌, ◌*◌, ◌≤◌}
 use native.Mathlib.Omega.{arith}
 use Rattle.turning.specs.Inner.{bit_from, bit_to}
-use Rattle.turning.proofs.Passes.{Up, up_none, up_is, eight-more, PassedAt, part, passed, bit-small}
+use Rattle.turning.proofs.Passes.{Up, up_none, up_is, eight_more, PassedAt, part, passed, bit-small}
 use Rattle.turning.proofs.narrow.Statement.{statement}
 use Rattle.turning.proofs.narrow.Tie as tie
 
@@ -21,7 +21,7 @@ loop-again c =
     let made = c.before.before.before.before.bits-turned in
     let read = c.before.before.before.before.before.eight-at in
     let l = c.before.before.before.before.before.before.before.loop in
-    (omega arith, up_is put.ensures (eight-more l.i l.y made.result (omega arith) (part bit_from bit_to bit-small c.before.before.before.before.before.before.before.before.before.before.args.x.now l.i made.result (rw read.ensures at made.ensures)) l.invariant.1))
+    (omega arith, up_is put.ensures (eight_more l.i l.y made.result (omega arith) (part bit_from bit_to bit-small c.before.before.before.before.before.before.before.before.before.before.args.x.now l.i made.result (rw read.ensures at made.ensures)) l.invariant.1))
 
 returns : tie.Need-returns invariant-loop decreases-loop
 returns c = passed bit_from bit_to bit-small _ _ (8 * c.before.loop.i) (omega arith) c.before.loop.invariant.1

@@ -4,7 +4,7 @@ use Prim.Native.Nat.{◌+◌, ◌-◌, ◌≤◌}
 use native.Mathlib.Omega.{arith}
 use lib.ListN.{length}
 use borrow.Author.Rules.{rules}
-use Rattle.bits.proofs.Filling.{written, written-length, written-more, written_all}
+use Rattle.bits.proofs.Filling.{written, written-length, written_more, written_all}
 use Rattle.turning.proofs.put.Statement.{statement}
 use Rattle.turning.proofs.put.Tie as tie
 
@@ -25,7 +25,7 @@ loop-again c =
     let old = c.before.before.args.output.now in
     let new = c.before.before.args.t1 in
     let room : length old ≡ 8 = c.before.before.requires in
-    let next = written-more new old q.output q.i _ q.invariant.2 (omega arith) q.invariant.1 refl in
+    let next = written_more new old q.output q.i _ q.invariant.2 (omega arith) q.invariant.1 refl in
     (omega arith, next, q.invariant.2, written-length new old _ (q.i + 1) q.invariant.2 (omega arith) next ∙ room)
 
 returns : tie.Need-returns invariant-loop decreases-loop

@@ -7,8 +7,8 @@ use lib.ListN.{length, take, get_or}
 use borrow.Rule.Slice.PartMut.{same_len_mid}
 use Rattle.published.specs.Bytes.{to_bytes}
 use Rattle.published.specs.Blocks.{joined}
-use Rattle.published.proofs.Many.{one-part}
-use Rattle.published.proofs.Groups.{joined-none}
+use Rattle.published.proofs.Many.{one_part}
+use Rattle.published.proofs.Groups.{joined_none}
 use Rattle.turning.proofs.Blocks.{block-put, all_blocks}
 use Rattle.turning.proofs.save.Statement.{statement}
 use Rattle.turning.proofs.save.Tie as tie
@@ -23,13 +23,13 @@ abbrev decreases-loop : tie.decreases-loop
 decreases-loop x output₀ b₀ output b = 64 - b
 
 loop-holds : tie.Need-loop-init invariant-loop decreases-loop
-loop-holds c = (omega arith, refl, sym (joined-none _))
+loop-holds c = (omega arith, refl, sym (joined_none _))
 
 put-block-requires : tie.Need-put-block-requires invariant-loop decreases-loop
 put-block-requires c κs =
     let l = c.before.before.before.before.loop in
     let size : length l.output ≡ 1024 = l.invariant.1 ∙ c.before.before.before.before.before.before.before.requires.1 in
-    one-part 16 (16 * l.b) l.output (omega arith)
+    one_part 16 (16 * l.b) l.output (omega arith)
 
 loop-again : tie.Need-loop-preserved invariant-loop decreases-loop
 loop-again c =
@@ -37,7 +37,7 @@ loop-again c =
     let l = c.before.before.before.before.before.before.before.loop in
     let start = c.before.before.before.before.before.before.before.before.before.before in
     let size : length l.output ≡ 1024 = l.invariant.1 ∙ start.requires.1 in
-    let len : length call.new.1.1.0 ≡ 16 = call.auto.1.1.0 ∙ one-part 16 (16 * l.b) l.output (omega arith) in (
+    let len : length call.new.1.1.0 ≡ 16 = call.auto.1.1.0 ∙ one_part 16 (16 * l.b) l.output (omega arith) in (
       omega arith,
       same_len_mid (16 * l.b) (16 * l.b + 16 - 16 * l.b) l.output call.new.1.1.0 call.auto.1.1.0 ∙ l.invariant.1,
       block-put (block start.args.x.now) l.output call.new.1.1.0 _ l.b (omega arith) len l.invariant.2 call.ensures,

@@ -1,7 +1,7 @@
 -- `turning::u64big`: the test finds each of its bits in one of the bytes.
 use mathlib.Core.List.{[], ◌∷◌}
 use Prim.Native.Nat.{◌-◌, ◌/◌, ◌%◌}
-use Rattle.bits.proofs.Reflect.{W, var, or, shl, atom, bit-by_test}
+use Rattle.bits.proofs.Reflect.{W, var, or, shl, atom, bit_by_test}
 use Rattle.turning.proofs.u64big.Statement.{statement}
 use Rattle.turning.proofs.u64big.Tie as tie
 
@@ -13,7 +13,7 @@ returns : tie.Need-returns
 returns c =
     let a = c.args in
     let f = c.ranges in
-    bit-by_test (8 ∷ 8 ∷ 8 ∷ 8 ∷ 8 ∷ 8 ∷ 8 ∷ 8 ∷ [])
+    bit_by_test (8 ∷ 8 ∷ 8 ∷ 8 ∷ 8 ∷ 8 ∷ 8 ∷ 8 ∷ [])
     (a.x0 ∷ a.x1 ∷ a.x2 ∷ a.x3 ∷ a.x4 ∷ a.x5 ∷ a.x6 ∷ a.x7 ∷ []) 64
     (f.x0.fits, (f.x1.fits, (f.x2.fits, (f.x3.fits, (f.x4.fits, (f.x5.fits, (f.x6.fits, (f.x7.fits, tt)))))))) joined 64 (λ p. atom (7 - p / 8) (p % 8)) tt
 

@@ -2,7 +2,7 @@
 use Prim.Native.Nat.{◌-◌, ◌*◌, ◌≤◌}
 use native.Mathlib.Omega.{arith}
 use Rattle.turning.specs.Inner.{byte_from, byte_to}
-use Rattle.turning.proofs.Passes.{Up, up_none, up_is, eight-more, PassedAt, part, passed, byte_small}
+use Rattle.turning.proofs.Passes.{Up, up_none, up_is, eight_more, PassedAt, part, passed, byte_small}
 use Rattle.turning.proofs.wide.Statement.{statement}
 use Rattle.turning.proofs.wide.Tie as tie
 
@@ -21,7 +21,7 @@ loop-again c =
     let made = c.before.before.before.before.bytes-turned in
     let read = c.before.before.before.before.before.eight-at in
     let l = c.before.before.before.before.before.before.before.loop in
-    (omega arith, up_is put.ensures (eight-more l.i l.y made.result (omega arith) (part byte_from byte_to byte_small c.before.before.before.before.before.before.before.before.before.before.args.x.now l.i made.result (rw read.ensures at made.ensures)) l.invariant.1))
+    (omega arith, up_is put.ensures (eight_more l.i l.y made.result (omega arith) (part byte_from byte_to byte_small c.before.before.before.before.before.before.before.before.before.before.args.x.now l.i made.result (rw read.ensures at made.ensures)) l.invariant.1))
 
 returns : tie.Need-returns invariant-loop decreases-loop
 returns c = passed byte_from byte_to byte_small _ _ (8 * c.before.loop.i) (omega arith) c.before.loop.invariant.1

@@ -11,9 +11,9 @@ returns : tie.Need-returns
 unfolding in_place
 returns c = rw (lt-leb _ _ c.if1.true)
 
-returns-2 : tie.Need-returns-2
+returns_2 : tie.Need-returns-2
 unfolding in_place
-returns-2 c = rw (le-leb _ _ c.before.before.if1.false, ne_eqb _ _ c.if2.true)
+returns_2 c = rw (le-leb _ _ c.before.before.if1.false, ne_eqb _ _ c.if2.true)
 
 returns-3 : tie.Need-returns-3
 unfolding in_place
@@ -34,7 +34,7 @@ in-place-spec =
     (λ c. search rules)
     returns
     (λ c. search rules)
-    returns-2
+    returns_2
     (λ c. search rules)
     (λ c. search rules)
     returns-3

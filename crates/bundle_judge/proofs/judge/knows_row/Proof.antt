@@ -7,8 +7,8 @@ use Rattle.bundle_judge.proofs.judge.knows_row.Tie as tie
 returns : tie.Need-returns
 returns c = rw (ne_eqb _ 1 c.if1.true)
 
-returns-2 : tie.Need-returns-2
-returns-2 c = rw c.before.if1.false c.knows-kind.ensures
+returns_2 : tie.Need-returns-2
+returns_2 c = rw c.before.if1.false c.knows-kind.ensures
 
 pub knows-row-spec : {M : Type 1} → statement M
-knows-row-spec = tie.close (tie.spec returns (λ c κs. search rules) returns-2)
+knows-row-spec = tie.close (tie.spec returns (λ c κs. search rules) returns_2)

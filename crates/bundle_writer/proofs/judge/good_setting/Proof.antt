@@ -11,9 +11,9 @@ returns : tie.Need-returns
 unfolding good_setting
 returns c = rw (lt-leb _ _ c.if1.true)
 
-returns-2 : tie.Need-returns-2
+returns_2 : tie.Need-returns-2
 unfolding good_setting
-returns-2 c = rw (le-leb _ _ c.before.before.if1.false, lt-ltb c.before.before.before.before.before.args.row.id (2 ^ 32) (search rules), told-false c.before.knows-kind.ensures c.if2.true)
+returns_2 c = rw (le-leb _ _ c.before.before.if1.false, lt-ltb c.before.before.before.before.before.args.row.id (2 ^ 32) (search rules), told-false c.before.knows-kind.ensures c.if2.true)
 
 returns-3 : tie.Need-returns-3
 unfolding good_setting
@@ -24,4 +24,4 @@ unfolding good_setting
 returns-4 c = rw (le-leb _ _ c.before.before.before.before.before.if1.false, lt-ltb c.before.before.before.before.before.before.before.before.args.row.id (2 ^ 32) (search rules), told-true c.before.before.before.before.knows-kind.ensures c.before.before.before.if2.false, told-true c.before.before.good-value.ensures c.before.if3.false)
 
 pub good-setting-spec : {M : Type 1} → statement M
-good-setting-spec = tie.close (tie.spec (λ c. search rules) returns (λ c κs. search rules) returns-2 (λ c κs. search rules) returns-3 returns-4)
+good-setting-spec = tie.close (tie.spec (λ c. search rules) returns (λ c κs. search rules) returns_2 (λ c κs. search rules) returns-3 returns-4)

@@ -7,7 +7,7 @@ use lib.ListN.{length, take, drop}
 use borrow.Author.Tests.{not-true, not-false}
 use Rattle.bundle_format.specs.Format.{good_setting, good_from}
 use Rattle.bundle_format.specs.Writer.{list_from}
-use Rattle.bundle_writer.proofs.Lent.{Sums, sums-start, sums_fit, sums-more, Goods, goods_start, goods_stop, goods_more, goods_end}
+use Rattle.bundle_writer.proofs.Lent.{Sums, sums-start, sums_fit, sums_more, Goods, goods_start, goods_stop, goods_more, goods_end}
 use Rattle.bundle_writer.proofs.judge.good_settings.Statement.{statement}
 use Rattle.bundle_writer.proofs.judge.good_settings.Tie as tie
 
@@ -63,10 +63,10 @@ loop-again c =
     let size : l.from + r.result.len - l.from ≡ r.result.len = omega arith in
     let told = c.before.before.good-setting.ensures ∙ ap (λ (k : ℕ). good_setting a.edition l.low (record { id = r.result.id; kind = r.result.kind; must = r.result.must; body = take k (drop l.from pool) })) size in
     let next = goods_more a.edition rows pool a.n (good_from a.edition 0 (list_from a.n rows pool)) l.i l.low l.from l.invariant.2 (omega arith) 0 r.result r.ensures c.before.before.good-setting.result told (not-false _ c.before.if1.false) in
-    (omega arith, sums-more rows a.n (length pool) l.i l.from 0 l.invariant.1 (omega arith) r.result r.ensures, next)
+    (omega arith, sums_more rows a.n (length pool) l.i l.from 0 l.invariant.1 (omega arith) r.result r.ensures, next)
 
-returns-2 : tie.Need-returns-2 invariant-loop decreases-loop
-returns-2 c =
+returns_2 : tie.Need-returns-2 invariant-loop decreases-loop
+returns_2 c =
     let a = c.before.before.before.before.args in
     let rows : List ℕ = a.rows.now in
     let pool : List ℕ = a.pool.now in
@@ -94,4 +94,4 @@ good-settings-spec =
     (λ c. omega arith)
     (λ c. omega arith)
     loop-again
-    returns-2)
+    returns_2)

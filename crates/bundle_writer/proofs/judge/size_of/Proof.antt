@@ -2,7 +2,7 @@
 use Prim.Native.Nat.{◌-◌, ◌*◌, ◌≤◌}
 use native.Mathlib.Omega.{arith}
 use Rattle.bundle_format.specs.Writer.{sizes}
-use Rattle.bundle_writer.proofs.Lent.{Sums, sums-start, sums-end, sums-more}
+use Rattle.bundle_writer.proofs.Lent.{Sums, sums-start, sums-end, sums_more}
 use Rattle.bundle_writer.proofs.judge.size_of.Statement.{statement}
 use Rattle.bundle_writer.proofs.judge.size_of.Tie as tie
 
@@ -22,7 +22,7 @@ loop-again c =
     let a = c.before.before.before.before.before.args in
     let l = c.before.before.before.loop in
     let r = c.before.lent_row in
-    (omega arith, omega arith, sums-more a.rows.now a.n (sizes a.n a.rows.now) l.i l.sum 0 l.invariant.2 (omega arith) r.result r.ensures)
+    (omega arith, omega arith, sums_more a.rows.now a.n (sizes a.n a.rows.now) l.i l.sum 0 l.invariant.2 (omega arith) r.result r.ensures)
 
 returns : tie.Need-returns invariant-loop decreases-loop
 returns c =

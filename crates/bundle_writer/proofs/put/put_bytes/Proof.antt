@@ -3,7 +3,7 @@ use mathlib.Core.Path.{◌≡◌, refl, sym}
 use Prim.Native.Nat.{◌-◌, ◌≤◌}
 use native.Mathlib.Omega.{arith}
 use lib.ListN.{length, length-set}
-use Rattle.bits.proofs.Filling.{written, written-more, written_all}
+use Rattle.bits.proofs.Filling.{written, written_more, written_all}
 use Rattle.bundle_writer.proofs.put.put_bytes.Statement.{statement}
 use Rattle.bundle_writer.proofs.put.put_bytes.Tie as tie
 
@@ -20,7 +20,7 @@ loop-again : tie.Need-loop-preserved invariant-loop decreases-loop
 loop-again c =
     let a = c.before.before.before.args in
     let l = c.before.before.loop in
-    (omega arith, simp length-set l.invariant.1, written-more a.bytes.now a.out.now l.out l.i _ (sym c.before.before.before.requires) (omega arith) l.invariant.2 refl)
+    (omega arith, simp length-set l.invariant.1, written_more a.bytes.now a.out.now l.out l.i _ (sym c.before.before.before.requires) (omega arith) l.invariant.2 refl)
 
 returns : tie.Need-returns invariant-loop decreases-loop
 returns c =

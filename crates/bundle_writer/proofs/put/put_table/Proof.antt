@@ -7,7 +7,7 @@ use lib.ListN.{length, length-take, length-drop}
 use Rattle.bundle_format.proofs.Rows.{length-row}
 use Rattle.bundle_format.specs.Format.{table_of}
 use Rattle.bundle_format.specs.Writer.{sizes}
-use Rattle.bundle_writer.proofs.Lent.{Sums, sums-start, sums_fit, sums-more}
+use Rattle.bundle_writer.proofs.Lent.{Sums, sums-start, sums_fit, sums_more}
 use Rattle.bundle_writer.proofs.Stored.{Tables, tables_start, tables_more, tables_end, put-length}
 use Rattle.bundle_writer.specs.Inner.{lent_rows}
 use Rattle.bundle_writer.proofs.put.put_table.Statement.{statement}
@@ -48,7 +48,7 @@ loop-again c =
     let twelve : 12 ≡ 12 * l.i + 12 - 12 * l.i = omega arith in (
       omega arith,
       put-length (12 * l.i) (12 * l.i + 12) l.out p.new.0 (omega arith) (ap length p.ensures ∙ length-row r.result ∙ twelve) ∙ l.invariant.1,
-      sums-more rows a.n (a.first + sizes a.n rows) l.i l.at l.at l.invariant.2 (omega arith) r.result r.ensures,
+      sums_more rows a.n (a.first + sizes a.n rows) l.i l.at l.at l.invariant.2 (omega arith) r.result r.ensures,
       tables_more rows a.n (table_of (lent_rows a.n a.first rows)) l.out l.invariant.1 l.i l.at l.invariant.3 (omega arith) r.result r.ensures p.new.0 p.ensures,
     )
 

@@ -6,7 +6,7 @@ use native.Mathlib.Omega.{arith}
 use lib.ListN.{length}
 use borrow.Author.Rules.{rules}
 use Rattle.bundle_format.proofs.Encoded.{length-header}
-use Rattle.bundle_writer.proofs.Stored.{untagged-is, length_lent, three-parts}
+use Rattle.bundle_writer.proofs.Stored.{untagged_is, length_lent, three-parts}
 use Rattle.bundle_writer.proofs.put.put_untagged.Statement.{statement}
 use Rattle.bundle_writer.proofs.put.put_untagged.Tie as tie
 
@@ -25,7 +25,7 @@ returns c =
     let lt : length t.new.0 ≡ 8 + 12 * n - 8 = ap length t.ensures ∙ length_lent n (8 + 12 * n) rows ∙ omega arith in
     let lp : length p.new.0 ≡ 8 + 12 * n + length pool - (8 + 12 * n) = ap length p.ensures ∙ omega arith in
     three-parts a.out.now h.new.0 t.new.0 p.new.0 (8 + 12 * n) (8 + 12 * n + length pool) (omega arith) (omega arith) length-is lh lt lp
-    ∙ untagged-is a.edition n rows pool h.new.0 t.new.0 p.new.0 sizes-are h.ensures t.ensures p.ensures
+    ∙ untagged_is a.edition n rows pool h.new.0 t.new.0 p.new.0 sizes-are h.ensures t.ensures p.ensures
 
 pub put-untagged-spec : {M : Type 1} → statement M
 put-untagged-spec =

@@ -8,9 +8,9 @@ returns : tie.Need-returns
 unfolding block_code
 returns c = rw (ne_eqb _ 16 c.if1.true)
 
-returns-2 : tie.Need-returns-2
+returns_2 : tie.Need-returns-2
 unfolding block_code
-returns-2 c = rw c.if1.false
+returns_2 c = rw c.if1.false
 
 pub block-code-spec : {M : Type 1} → statement M
-block-code-spec = tie.close (tie.spec returns returns-2)
+block-code-spec = tie.close (tie.spec returns returns_2)

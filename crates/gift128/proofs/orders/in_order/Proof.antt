@@ -9,9 +9,9 @@ returns : tie.Need-returns
 unfolding order_code
 returns c = rw (told-false c.before.is-order.ensures c.if1.true)
 
-returns-2 : tie.Need-returns-2
+returns_2 : tie.Need-returns-2
 unfolding order_code
-returns-2 c = rw (told-true c.before.is-order.ensures c.if1.false)
+returns_2 c = rw (told-true c.before.is-order.ensures c.if1.false)
 
 pub in-order-spec : {M : Type 1} → statement M
-in-order-spec = tie.close (tie.spec (λ c κs. search rules) returns returns-2)
+in-order-spec = tie.close (tie.spec (λ c κs. search rules) returns returns_2)

@@ -9,9 +9,9 @@ returns : tie.Need-returns
 unfolding key_code
 returns c = rw (ne_eqb _ 16 c.if1.true)
 
-returns-2 : tie.Need-returns-2
+returns_2 : tie.Need-returns-2
 unfolding key_code
-returns-2 c = rw c.before.if1.false c.block-code.ensures
+returns_2 c = rw c.before.if1.false c.block-code.ensures
 
 pub key-code-spec : {M : Type 1} → statement M
-key-code-spec = tie.close (tie.spec returns (λ c κs. search rules) returns-2)
+key-code-spec = tie.close (tie.spec returns (λ c κs. search rules) returns_2)

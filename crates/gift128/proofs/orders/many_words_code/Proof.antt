@@ -9,9 +9,9 @@ returns : tie.Need-returns
 unfolding many_words_code
 returns c = rw (ne_eqb _ 80 c.if1.true)
 
-returns-2 : tie.Need-returns-2
+returns_2 : tie.Need-returns-2
 unfolding many_words_code
-returns-2 c = rw c.before.if1.false c.blocks-code.ensures
+returns_2 c = rw c.before.if1.false c.blocks-code.ensures
 
 pub many-words-code-spec : {M : Type 1} → statement M
-many-words-code-spec = tie.close (tie.spec returns (λ c κs. search rules) returns-2)
+many-words-code-spec = tie.close (tie.spec returns (λ c κs. search rules) returns_2)

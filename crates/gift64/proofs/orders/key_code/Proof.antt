@@ -8,13 +8,13 @@ returns : tie.Need-returns
 unfolding key_code64
 returns c = rw (ne_eqb _ 16 c.if1.true)
 
-returns-2 : tie.Need-returns-2
+returns_2 : tie.Need-returns-2
 unfolding key_code64
-returns-2 c = rw (c.before.if1.false, ne_eqb _ 8 c.if2.true)
+returns_2 c = rw (c.before.if1.false, ne_eqb _ 8 c.if2.true)
 
 returns-3 : tie.Need-returns-3
 unfolding key_code64
 returns-3 c = rw (c.before.if1.false, c.if2.false)
 
 pub key-code-spec : {M : Type 1} → statement M
-key-code-spec = tie.close (tie.spec returns returns-2 returns-3)
+key-code-spec = tie.close (tie.spec returns returns_2 returns-3)

@@ -8,9 +8,9 @@ returns : tie.Need-returns
 unfolding many_code
 returns c = rw (ne_eqb _ 16 c.if1.true)
 
-returns-2 : tie.Need-returns-2
+returns_2 : tie.Need-returns-2
 unfolding many_code
-returns-2 c = rw (c.before.if1.false, ne_eqb _ 0 c.if2.true)
+returns_2 c = rw (c.before.if1.false, ne_eqb _ 0 c.if2.true)
 
 returns-3 : tie.Need-returns-3
 unfolding many_code
@@ -21,4 +21,4 @@ unfolding many_code
 returns-4 c = rw (c.before.before.if1.false, c.before.if2.false, eq-eqb _ _ c.if3.false)
 
 pub many-code-spec : {M : Type 1} → statement M
-many-code-spec = tie.close (tie.spec returns returns-2 returns-3 returns-4)
+many-code-spec = tie.close (tie.spec returns returns_2 returns-3 returns-4)

@@ -4,8 +4,8 @@ use borrow.Author.Rules.{rules}
 use Rattle.bits.specs.Digit.{bit, digit}
 use Rattle.primitives.specs.declared.State.{State}
 use Rattle.primitives.proofs.Swaps.{exchange}
-use Rattle.primitives.proofs.Blocks.{same-words}
-use Rattle.quintuple.proofs.Shapes.{same_move, swapped, one-after}
+use Rattle.primitives.proofs.Blocks.{same_words}
+use Rattle.quintuple.proofs.Shapes.{same_move, swapped, one_after}
 use Rattle.gift64.specs.Inner.{move, moved_by}
 use Rattle.gift64.proofs.rounds.columns.Statement.{statement}
 use Rattle.gift64.proofs.rounds.columns.Tie as tie
@@ -18,12 +18,12 @@ returns c =
     let c2 = c3.before in
     let c1 = c2.before in
     let s : State = c1.before.args.s in
-    same-words _ _
+    same_words _ _
     (same_move (exchange 0x2222 2) (move 0 0) tt s.s0 _ _ (swapped 0x2222 2 tt s.s0 _ c1.swapmovesingle.ensures) refl)
     (same_move (exchange 0x5555 1) (move 0 1) tt s.s1 _ _ (swapped 0x5555 1 tt s.s1 _ c2.swapmovesingle2.ensures) refl)
     (same_move (exchange 0x1111 2) (move 0 2) tt s.s2 _ _ (swapped 0x1111 2 tt s.s2 _ c3.swapmovesingle3.ensures) refl)
     (same_move (λ i. exchange 0x5555 1 (exchange 0x3333 2 i)) (move 0 3) tt s.s3 _ _
-    (one-after (exchange 0x3333 2) (exchange 0x5555 1) tt s.s3 _ _ (swapped 0x5555 1 tt s.s3 _ c4.swapmovesingle4.ensures)
+    (one_after (exchange 0x3333 2) (exchange 0x5555 1) tt s.s3 _ _ (swapped 0x5555 1 tt s.s3 _ c4.swapmovesingle4.ensures)
     (swapped 0x3333 2 tt c4.swapmovesingle4.result _ c.swapmovesingle5.ensures)) refl)
 
 pub columns_spec : {M : Type 1} → statement M

@@ -21,8 +21,8 @@ returns : tie.Need-returns
 unfolding digit number bit of_bits step constant constant_word
 returns c = agree 28 (λ k. get_or (ruled 28 0) k 0) constant_word tt c.before.args.r c.if1.true ∙ sym (cond-true _ _ _ (lt-ltb _ 28 c.if1.true))
 
-returns-2 : tie.Need-returns-2
-returns-2 c = sym (cond-false _ _ _ (le-ltb _ 28 c.if1.false))
+returns_2 : tie.Need-returns-2
+returns_2 c = sym (cond-false _ _ _ (le-ltb _ 28 c.if1.false))
 
 pub round-constant-spec : {M : Type 1} → statement M
-round-constant-spec = tie.close (tie.spec (λ c. search rules) (λ c. search rules) returns returns-2)
+round-constant-spec = tie.close (tie.spec (λ c. search rules) (λ c. search rules) returns returns_2)

@@ -6,11 +6,11 @@ use native.Mathlib.Omega.{arith}
 use lib.Dec.{lit<}
 use lib.ListN.{length}
 use Rattle.bits.specs.Digit.{bit}
-use Rattle.bits.proofs.Bits.{one-lt}
+use Rattle.bits.proofs.Bits.{one_lt}
 use Rattle.plain.specs.Inner.{Nibbles, one_at}
 use Rattle.plain.proofs.Nibbles.{again, same_length}
-use Rattle.plain.proofs.Flips.{Flipped, none-flipped, then-flipped}
-use Rattle.plain.proofs.Adding.{below, none_below, constant_at, constant-next, constant-whole}
+use Rattle.plain.proofs.Flips.{Flipped, none_flipped, then_flipped}
+use Rattle.plain.proofs.Adding.{below, none_below, constant_at, constant_next, constant_whole}
 use Rattle.plain.proofs.steps.add_constant.Statement.{statement}
 use Rattle.plain.proofs.steps.add_constant.Tie as tie
 
@@ -28,14 +28,14 @@ xor-bit-requires : tie.Need-xor-bit-requires invariant-loop decreases-loop
 xor-bit-requires c κs = let start = c.before.before in (start.requires, (omega arith, lit< tt))
 
 loop-holds : tie.Need-loop-init invariant-loop decreases-loop
-loop-holds c = let first = c.before.before in (omega arith, none-flipped first.xor-bit.new.0 _ (flipped first).small (λ q h. none_below (constant_at first.before.before.before.args.c) q))
+loop-holds c = let first = c.before.before in (omega arith, none_flipped first.xor-bit.new.0 _ (flipped first).small (λ q h. none_below (constant_at first.before.before.before.args.c) q))
 
 xor-bit-requires-2 : tie.Need-xor-bit-requires-2 invariant-loop decreases-loop
 xor-bit-requires-2 c κs =
     let l = c.before.before.before.loop in
     let first = c.before.before.before.before.before.before in
     let ok = again first.xor-bit.new.0 _ l.invariant.1 (flipped first) in
-    (ok, (omega (arith, ok.least), rw c.bit.ensures (one-lt (bit first.before.before.before.args.c l.i))))
+    (ok, (omega (arith, ok.least), rw c.bit.ensures (one_lt (bit first.before.before.before.args.c l.i))))
 
 loop-again : tie.Need-loop-preserved invariant-loop decreases-loop
 loop-again c =
@@ -43,8 +43,8 @@ loop-again c =
     let l = here.before.before.before.before.loop in
     let first = here.before.before.before.before.before.before.before in (
       omega arith,
-      then-flipped first.xor-bit.new.0 _ _ _ l.invariant.1 here.xor-bit2.ensures
-          (λ q h. constant-next first.before.before.before.args.c l.i here.before.bit.result here.before.bit.ensures q),
+      then_flipped first.xor-bit.new.0 _ _ _ l.invariant.1 here.xor-bit2.ensures
+          (λ q h. constant_next first.before.before.before.args.c l.i here.before.bit.result here.before.bit.ensures q),
     )
 
 returns : tie.Need-returns invariant-loop decreases-loop
@@ -54,8 +54,8 @@ returns c =
     let start = first.before.before.before in
     let s : List ℕ = start.args.s.now in
     let all : l.i ≡ 6 = omega arith in
-    then-flipped s (one_at (4 * length s - 1) 1) (below (constant_at start.args.c) 6) _ first.xor-bit.ensures (rw all at l.invariant.1)
-    (λ q h. constant-whole (4 * length s) start.args.c q)
+    then_flipped s (one_at (4 * length s - 1) 1) (below (constant_at start.args.c) 6) _ first.xor-bit.ensures (rw all at l.invariant.1)
+    (λ q h. constant_whole (4 * length s) start.args.c q)
 
 pub add-constant-spec : {M : Type 1} → statement M
 add-constant-spec =

@@ -6,12 +6,12 @@ use Prim.Native.Nat.{ℕ, ◌+◌, ◌-◌, ◌*◌, ◌≤◌}
 use native.Mathlib.Omega.{arith}
 use lib.ListN.{length}
 use Rattle.bits.specs.Digit.{bit, ◌⊕◌}
-use Rattle.bits.proofs.Bits.{one-lt}
+use Rattle.bits.proofs.Bits.{one_lt}
 use Rattle.published.specs.Rounds.{key_bit}
 use Rattle.plain.specs.Inner.{one_at, pair}
 use Rattle.plain.proofs.Nibbles.{again, same_length}
-use Rattle.plain.proofs.Flips.{Flipped, none-flipped, then-flipped, as_flipped}
-use Rattle.plain.proofs.Adding.{below, none_below, all-below, key-next}
+use Rattle.plain.proofs.Flips.{Flipped, none_flipped, then_flipped, as_flipped}
+use Rattle.plain.proofs.Adding.{below, none_below, all_below, key_next}
 use Rattle.plain.proofs.steps.add_round_key.Statement.{statement}
 use Rattle.plain.proofs.steps.add_round_key.Tie as tie
 
@@ -25,13 +25,13 @@ loop-holds : tie.Need-loop-init invariant-loop decreases-loop
 loop-holds c =
     let start = c.before in
     let a = start.args in
-    (omega arith, none-flipped a.s.now _ start.requires.0.small (λ q h. none_below (key_bit a.j (pair a.u a.v)) q))
+    (omega arith, none_flipped a.s.now _ start.requires.0.small (λ q h. none_below (key_bit a.j (pair a.u a.v)) q))
 
 xor-bit-requires : tie.Need-xor-bit-requires invariant-loop decreases-loop
 xor-bit-requires c κs =
     let l = c.before.before.before.loop in
     let start = c.before.before.before.before.before in
-    (again start.args.s.now _ l.invariant.1 start.requires.0, (omega (arith, same_length start.args.s.now _ l.invariant.1), rw c.bit.ensures (one-lt (bit start.args.u l.i))))
+    (again start.args.s.now _ l.invariant.1 start.requires.0, (omega (arith, same_length start.args.s.now _ l.invariant.1), rw c.bit.ensures (one_lt (bit start.args.u l.i))))
 
 -- the bits before nibble i, and the first of the two in it
 abbrev halfway : (j u v i b : ℕ) → ℕ → Bool
@@ -47,14 +47,14 @@ once : (c : tie.After-xor-bit invariant-loop decreases-loop)
     → Flipped (entry c).args.s.now (halfway (entry c).args.j (entry c).args.u (entry c).args.v (at c).loop.i c.before.bit.result) c.xor-bit.new.0
 once c =
     let a = (entry c).args in
-    then-flipped a.s.now (below (key_bit a.j (pair a.u a.v)) (at c).loop.i) _ _ (at c).loop.invariant.1 c.xor-bit.ensures (λ q h. refl)
+    then_flipped a.s.now (below (key_bit a.j (pair a.u a.v)) (at c).loop.i) _ _ (at c).loop.invariant.1 c.xor-bit.ensures (λ q h. refl)
 
 xor-bit-requires-2 : tie.Need-xor-bit-requires-2 invariant-loop decreases-loop
 xor-bit-requires-2 c κs =
     let first = c.before.before.before.before in
     let l = (at first).loop in
     let start = entry first in
-    (again start.args.s.now _ (once first) start.pre.0, (omega (arith, same_length start.args.s.now _ (once first)), rw c.bit2.ensures (one-lt (bit start.args.v l.i))))
+    (again start.args.s.now _ (once first) start.pre.0, (omega (arith, same_length start.args.s.now _ (once first)), rw c.bit2.ensures (one_lt (bit start.args.v l.i))))
 
 loop-again : tie.Need-loop-preserved invariant-loop decreases-loop
 loop-again c =
@@ -64,8 +64,8 @@ loop-again c =
     let start = entry first in
     let a = start.args in (
       omega arith,
-      then-flipped a.s.now (halfway a.j a.u a.v l.i first.before.bit.result) _ _ (once first) second.xor-bit2.ensures
-          (λ q h. key-next a.j start.pre.1 (pair a.u a.v) l.i first.before.bit.result second.before.bit2.result first.before.bit.ensures second.before.bit2.ensures q),
+      then_flipped a.s.now (halfway a.j a.u a.v l.i first.before.bit.result) _ _ (once first) second.xor-bit2.ensures
+          (λ q h. key_next a.j start.pre.1 (pair a.u a.v) l.i first.before.bit.result second.before.bit2.result first.before.bit.ensures second.before.bit2.ensures q),
     )
 
 returns : tie.Need-returns invariant-loop decreases-loop
@@ -74,7 +74,7 @@ returns c =
     let start = c.before.before.before in
     let s : List ℕ = start.args.s.now in
     let all : l.i ≡ length s = omega arith in
-    as_flipped s _ _ l.invariant.1 (λ q h. rw all (all-below (key_bit start.args.j (pair start.args.u start.args.v)) (length s) q h))
+    as_flipped s _ _ l.invariant.1 (λ q h. rw all (all_below (key_bit start.args.j (pair start.args.u start.args.v)) (length s) q h))
 
 pub add-round-key-spec : {M : Type 1} → statement M
 add-round-key-spec =

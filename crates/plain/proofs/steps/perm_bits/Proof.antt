@@ -6,11 +6,11 @@ use native.Mathlib.Omega.{arith}
 use lib.ListN.{length, take}
 use borrow.Author.Rules.{rules}
 use Rattle.bits.specs.Digit.{bit}
-use Rattle.bits.proofs.Bits.{one-lt}
+use Rattle.bits.proofs.Bits.{one_lt}
 use Rattle.published.specs.Rounds.{P, moved, perm_bits, xored}
 use Rattle.plain.specs.Inner.{state_of, nibbles_of, by, one_at}
-use Rattle.plain.proofs.Nibbles.{length-nibbles_of, take-nibbles_of, nibbles-32, width_of}
-use Rattle.plain.proofs.Moving.{zeros, moved-next}
+use Rattle.plain.proofs.Nibbles.{length-nibbles_of, take-nibbles_of, nibbles_32, width_of}
+use Rattle.plain.proofs.Moving.{zeros, moved_next}
 use Rattle.plain.proofs.steps.perm_bits.Statement.{statement}
 use Rattle.plain.proofs.steps.perm_bits.Tie as tie
 
@@ -33,7 +33,7 @@ xor-bit-requires c κs =
     let start = at.before.before in
     let i : ℕ = at.loop.i in
     let there = (width_of start.args.s.now start.requires).P_lt i (omega arith) in
-    (nibbles-32 _ at.loop.invariant.1, (rw c.before.before.p.ensures (omega (arith, there, long at, start.requires.most)), rw c.state-bit.ensures (one-lt (bit (state_of start.args.s.now) i))))
+    (nibbles_32 _ at.loop.invariant.1, (rw c.before.before.p.ensures (omega (arith, there, long at, start.requires.most)), rw c.state-bit.ensures (one_lt (bit (state_of start.args.s.now) i))))
 
 loop-again : tie.Need-loop-preserved invariant-loop decreases-loop
 loop-again c =
@@ -44,7 +44,7 @@ loop-again c =
     let s : List ℕ = start.args.s.now in
     let i : ℕ = at.loop.i in (
       omega arith,
-      moved-next (4 * length s) (width_of s start.requires) (omega (arith, start.requires.most)) (state_of s) i found.state-bit.result (omega arith) at.loop.invariant.1 found.state-bit.ensures
+      moved_next (4 * length s) (width_of s start.requires) (omega (arith, start.requires.most)) (state_of s) i found.state-bit.result (omega arith) at.loop.invariant.1 found.state-bit.ensures
           (call.xor-bit.ensures ∙ ap (λ (q : ℕ). by (λ n. xored n (one_at q found.state-bit.result)) at.loop.moved) found.before.before.p.ensures),
     )
 

@@ -6,7 +6,7 @@ use native.Mathlib.Omega.{arith}
 use lib.Bits.{bit_xor}
 use borrow.Author.Rules.{rules}
 use Rattle.bits.specs.Digit.{one, bit, ◌⊕◌}
-use Rattle.bits.proofs.Bits.{one-lt}
+use Rattle.bits.proofs.Bits.{one_lt}
 use Rattle.published.specs.Rounds.{step}
 use Rattle.plain.proofs.steps.step_constant.Statement.{statement}
 use Rattle.plain.proofs.steps.step_constant.Tie as tie
@@ -21,7 +21,7 @@ comes_in : (c : tie.After-bit2) → bit_xor (bit_xor c.before.bit.result c.bit2.
 comes_in c = ap₂ (λ (x y : ℕ). bit_xor (bit_xor x y) 1) c.before.bit.ensures c.bit2.ensures ∙ xor_ones (bit c.before.before.args.c 5) (bit c.before.before.args.c 4)
 
 add-result : tie.Need-overflow-add-result
-add-result c = omega (arith, comes_in c, one-lt (bit c.before.before.args.c 5 ⊕ bit c.before.before.args.c 4 ⊕ true))
+add-result c = omega (arith, comes_in c, one_lt (bit c.before.before.args.c 5 ⊕ bit c.before.before.args.c 4 ⊕ true))
 
 returns : tie.Need-returns
 unfolding step

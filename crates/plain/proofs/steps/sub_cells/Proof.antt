@@ -3,7 +3,7 @@ use Prim.Native.Nat.{◌-◌, ◌≤◌, ◌<◌}
 use native.Mathlib.Omega.{arith}
 use lib.ListN.{length, get_or}
 use Rattle.published.specs.Rounds.{sub_cells}
-use Rattle.plain.proofs.Tables.{Through, through-none, through-next, through-all}
+use Rattle.plain.proofs.Tables.{Through, through_none, through_next, through_all}
 use Rattle.plain.proofs.steps.sub_cells.Statement.{statement}
 use Rattle.plain.proofs.steps.sub_cells.Tie as tie
 
@@ -14,7 +14,7 @@ abbrev decreases-loop : tie.decreases-loop
 decreases-loop s₀ table i₀ i-end s i = length s₀ - i
 
 loop-holds : tie.Need-loop-init invariant-loop decreases-loop
-loop-holds c = (omega arith, through-none _ _)
+loop-holds c = (omega arith, through_none _ _)
 
 -- the nibble that is looked up is one
 index : (c : tie.In-loop invariant-loop decreases-loop) → get_or c.before.loop.s c.before.loop.i 0 < 16
@@ -23,14 +23,14 @@ index c = let l = c.before.loop in rw (l.invariant.1.rest l.i (omega arith)) (c.
 loop-again : tie.Need-loop-preserved invariant-loop decreases-loop
 loop-again c =
     let l = c.before.before.loop in
-    (omega arith, through-next _ _ l.i l.s l.invariant.1 (omega (arith, l.invariant.1.same)))
+    (omega arith, through_next _ _ l.i l.s l.invariant.1 (omega (arith, l.invariant.1.same)))
 
 returns : tie.Need-returns invariant-loop decreases-loop
 unfolding sub_cells
 returns c =
     let l = c.before.loop in
     let start = c.before.before in
-    through-all _ start.args.s.now l.i l.s start.requires.1 start.requires.0.small l.invariant.1 (omega arith)
+    through_all _ start.args.s.now l.i l.s start.requires.1 start.requires.0.small l.invariant.1 (omega arith)
 
 pub sub-cells-spec : {M : Type 1} → statement M
 sub-cells-spec =

@@ -6,12 +6,12 @@ use native.Mathlib.Omega.{arith}
 use lib.ListN.{length, take}
 use borrow.Author.Rules.{rules}
 use Rattle.bits.specs.Digit.{number, one, bit, of_bits}
-use Rattle.bits.proofs.Bits.{one-lt}
+use Rattle.bits.proofs.Bits.{one_lt}
 use Rattle.published.specs.Rounds.{P}
 use Rattle.published.specs.Inner.{un_perm_bits}
 use Rattle.plain.specs.Inner.{state_of, nibbles_of}
-use Rattle.plain.proofs.Nibbles.{length-nibbles_of, take-nibbles_of, nibbles-32, width_of}
-use Rattle.plain.proofs.Moving.{zeros, unmoved-next}
+use Rattle.plain.proofs.Nibbles.{length-nibbles_of, take-nibbles_of, nibbles_32, width_of}
+use Rattle.plain.proofs.Moving.{zeros, unmoved_next}
 use Rattle.plain.proofs.steps.un_perm_bits.Statement.{statement}
 use Rattle.plain.proofs.steps.un_perm_bits.Tie as tie
 
@@ -38,7 +38,7 @@ xor-bit-requires : tie.Need-xor-bit-requires invariant-loop decreases-loop
 xor-bit-requires c κs =
     let at = c.before.before.before.before.before in
     let start = at.before.before in
-    (nibbles-32 _ at.loop.invariant.1, (omega (arith, long at, start.requires.most), rw c.state-bit.ensures (one-lt (bit (state_of start.args.s.now) c.before.p.result))))
+    (nibbles_32 _ at.loop.invariant.1, (omega (arith, long at, start.requires.most), rw c.state-bit.ensures (one_lt (bit (state_of start.args.s.now) c.before.p.result))))
 
 loop-again : tie.Need-loop-preserved invariant-loop decreases-loop
 loop-again c =
@@ -48,7 +48,7 @@ loop-again c =
     let start = at.before.before in
     let s : List ℕ = start.args.s.now in (
       omega arith,
-      unmoved-next (4 * length s) (width_of s start.requires) (omega (arith, start.requires.most)) (state_of s) at.loop.i found.state-bit.result (omega arith) at.loop.invariant.1
+      unmoved_next (4 * length s) (width_of s start.requires) (omega (arith, start.requires.most)) (state_of s) at.loop.i found.state-bit.result (omega arith) at.loop.invariant.1
           (found.state-bit.ensures ∙ ap (λ (q : ℕ). one (bit (state_of s) q)) found.before.p.ensures) call.xor-bit.ensures,
     )
 

@@ -8,18 +8,18 @@ use Rattle.plain.proofs.Rounds.{round-unmade}
 use Rattle.plain.proofs.steps.unround.Statement.{statement}
 use Rattle.plain.proofs.steps.unround.Tie as tie
 
-before-4 : (c : tie.After-add-constant) → Nibbles c.add-constant.new.0
-before-4 c = let start = c.before.before.before in again start.args.s.now _ c.add-constant.ensures start.requires.0
+before_4 : (c : tie.After-add-constant) → Nibbles c.add-constant.new.0
+before_4 c = let start = c.before.before.before in again start.args.s.now _ c.add-constant.ensures start.requires.0
 
-before-3 : (c : tie.After-add-round-key) → Nibbles c.add-round-key.new.0
-before-3 c = let done = c.before.before.before.before in again done.add-constant.new.0 _ c.add-round-key.ensures (before-4 done)
+before_3 : (c : tie.After-add-round-key) → Nibbles c.add-round-key.new.0
+before_3 c = let done = c.before.before.before.before in again done.add-constant.new.0 _ c.add-round-key.ensures (before_4 done)
 
-before-2 : (c : tie.After-un-perm-bits) → Nibbles c.un-perm-bits.new.0
-before-2 c = let done = c.before.before.before.before in again done.add-round-key.new.0 _ c.un-perm-bits.ensures (before-3 done)
+before_2 : (c : tie.After-un-perm-bits) → Nibbles c.un-perm-bits.new.0
+before_2 c = let done = c.before.before.before.before in again done.add-round-key.new.0 _ c.un-perm-bits.ensures (before_3 done)
 
 -- entries of a table are nibbles
 sub-cells-requires : tie.Need-sub-cells-requires
-sub-cells-requires c κs = (before-2 c.before.before.before, bounded 16 16 _ tt)
+sub-cells-requires c κs = (before_2 c.before.before.before, bounded 16 16 _ tt)
 
 returns : tie.Need-returns
 unfolding unentry
@@ -37,8 +37,8 @@ unround-spec =
     tie.close
     (tie.spec
     (λ c κs. c.before.before.requires.0)
-    (λ c κs. (before-4 c.before.before.before, c.before.before.before.before.before.before.requires.1))
-    (λ c κs. before-3 c.before.before.before)
+    (λ c κs. (before_4 c.before.before.before, c.before.before.before.before.before.before.requires.1))
+    (λ c κs. before_3 c.before.before.before)
     sub-cells-requires
     (λ c. search rules)
     returns)

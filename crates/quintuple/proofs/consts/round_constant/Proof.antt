@@ -7,16 +7,16 @@ use Rattle.bits.proofs.Computed.{cond-true, cond-false}
 use Rattle.published.specs.Rounds.{P, step, constant}
 use Rattle.primitives.specs.Words.{permuted}
 use Rattle.round_words.specs.Arranged.{N, nibble_at, arranged, constant_word}
-use Rattle.quintuple.proofs.Table.{at-round}
+use Rattle.quintuple.proofs.Table.{at_round}
 use Rattle.quintuple.proofs.consts.round_constant.Statement.{statement}
 use Rattle.quintuple.proofs.consts.round_constant.Tie as tie
 
 returns : tie.Need-returns
 unfolding digit number bit of_bits P step constant permuted N nibble_at arranged constant_word
-returns c = at-round c.before.args.r c.if1.true ∙ sym (cond-true _ _ _ (lt-ltb _ 40 c.if1.true))
+returns c = at_round c.before.args.r c.if1.true ∙ sym (cond-true _ _ _ (lt-ltb _ 40 c.if1.true))
 
-returns-2 : tie.Need-returns-2
-returns-2 c = sym (cond-false _ _ _ (le-ltb _ 40 c.if1.false))
+returns_2 : tie.Need-returns-2
+returns_2 c = sym (cond-false _ _ _ (le-ltb _ 40 c.if1.false))
 
 pub round-constant-spec : {M : Type 1} → statement M
-round-constant-spec = tie.close (tie.spec (λ c. search rules) (λ c. search rules) returns returns-2)
+round-constant-spec = tie.close (tie.spec (λ c. search rules) (λ c. search rules) returns returns_2)
