@@ -1,4 +1,6 @@
 // The numbers that calls give back, by name: 0 is done, every other is a refusal. specs/Numbers.antt has the same names for contracts.
+#![tactic(auto)]
+
 pub const DONE: u32 = 0;
 
 // The key is not of 16 bytes.

@@ -1,4 +1,6 @@
 // Lanes that take turns on one cipher, by value: a call is given a bench and gives back the bench after it, with a number that is 0 if it was done.
+#![tactic(auto)]
+
 ghost use Rattle.std.specs.Prelude.{◌≡◌, ◌<◌};
 ghost use Rattle.lane.specs.Record.{admits};
 ghost use Rattle.bench_orders.specs.Orders.{lane_count};
@@ -17,7 +19,7 @@ const LAST: usize = LANES - 1;
 
 // What every call gives back: its number, the turns made, and the bench after it. Only turns are made by a call for turns.
 #[repr(C)]
-#[derive(Drop)]
+#[derive(Clone, Copy)]
 pub struct Answer {
     pub code: u32,
     pub made: u32,

@@ -1,1 +1,2 @@
 // The promises of a bench over every history of calls: definitions and laws, nothing to run.
+#![tactic(auto)]

@@ -1,5 +1,7 @@
 // The bench's calls over records that a host lends for the call: as many as there are lanes, or the answer is 10.
 // The records are looked at where they lie, by loops that carry numbers alone, and a call changes the one record that it is about.
+#![tactic(auto)]
+
 ghost use Rattle.std.specs.Prelude.{◌≡◌, ◌+◌, ◌<◌, ◌^◌, length, set};
 ghost use Rattle.bench_orders.specs.Orders.{lane_count};
 ghost use Rattle.bench_turns.specs.Turning.{lane_at, seek, chosen, turned};
@@ -14,7 +16,7 @@ use lane_turns::{opened, served, yielded};
 
 // What a call for turns tells: its number, the turns made, and the lane last served.
 #[repr(C)]
-#[derive(Drop)]
+#[derive(Clone, Copy)]
 pub struct Turns {
     pub code: u32,
     pub made: u32,
@@ -52,7 +54,7 @@ fn renew(lanes: &mut [Lane], n: usize, l: Lane)
 
 // How far a look has come: the next record, or LANES when it is over; whether all was sound so far; and of the lane that is named its phase, and
 // whether it admits the caller.
-#[derive(Drop)]
+#[derive(Clone, Copy)]
 struct Seen {
     next: usize,
     sound: bool,
@@ -120,7 +122,7 @@ fn look(lanes: &mut [Lane], last: u32, lane: u32, caller: u16) -> Seen
 // ---- searching
 
 // How far a search has come: the next lane, and how many are left to look at. With none left it is the lane found, or LANES.
-#[derive(Drop)]
+#[derive(Clone, Copy)]
 struct Place {
     at: usize,
     left: usize,
@@ -175,7 +177,7 @@ fn turn_once(lanes: &mut [Lane], last: u32) -> usize
 }
 
 // How far the turns of a call have come: what is told of them, and how many are left to make.
-#[derive(Drop)]
+#[derive(Clone, Copy)]
 struct Run {
     told: Turns,
     left: u32,

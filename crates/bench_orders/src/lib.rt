@@ -1,4 +1,6 @@
 // The number that each call gives: its refusals, tried in document 01's order, and nothing else. The bench by value and the lent bench both ask here.
+#![tactic(auto)]
+
 ghost use Rattle.std.specs.Prelude.{◌≡◌};
 ghost use Rattle.bench_orders.specs.Orders.{open_code, turn_code, take_code, close_code};
 

@@ -1,4 +1,6 @@
 // A bench: its lanes and the one last served, whether it is sound, and turns, each by the first running lane in cyclic order after the last served one.
+#![tactic(auto)]
+
 ghost use Rattle.std.specs.Prelude.{◌≡◌, ◌<◌, length};
 ghost use Rattle.bench_orders.specs.Orders.{lane_count};
 ghost use Rattle.bench_turns.specs.Turning.{after, seek, chosen, turned, turned_by, served_by};
@@ -12,7 +14,7 @@ const LAST: usize = LANES - 1;
 
 // The lanes, and the one last served.
 #[repr(C)]
-#[derive(Drop)]
+#[derive(Clone, Copy)]
 pub struct Bench {
     pub lanes: [Lane; LANES],
     pub last: u32,
@@ -74,7 +76,7 @@ fn seek(lanes: [Lane; LANES], from: usize) -> usize
 }
 
 // One turn: the lane that it serves, or LANES where none runs, and the bench after it.
-#[derive(Drop)]
+#[derive(Clone, Copy)]
 struct One {
     lane: usize,
     bench: Bench,
@@ -95,7 +97,7 @@ fn turn_once(b: Bench) -> One
 }
 
 // Many turns: how many were made, and the bench after them.
-#[derive(Drop)]
+#[derive(Clone, Copy)]
 pub struct Many {
     pub made: u32,
     pub bench: Bench,

@@ -1,10 +1,11 @@
 // The settings bundle's format, for its reader and its writer: an entry of its table, what calls answer, and the kinds of an edition. What they mean is in specs/.
+#![tactic(auto)]
 
 ghost use Rattle.std.specs.Prelude.{◌≡◌};
 ghost use Rattle.bundle_format.specs.Format.{kinds, knows, good_value};
 
 // An entry of the table of contents, in the table's order.
-#[derive(Drop)]
+#[derive(Clone, Copy)]
 pub struct Row {
     pub id: u32,
     pub at: u32,
@@ -24,7 +25,7 @@ pub const VALUE: u32 = 3;
 
 // What is told of a setting: how it stands, and of a value its kind, and where its body lies in the bundle. What does not apply is 0.
 #[repr(C)]
-#[derive(Drop)]
+#[derive(Clone, Copy)]
 pub struct Told {
     pub state: u32,
     pub id: u32,
@@ -35,7 +36,7 @@ pub struct Told {
 
 // A bundle that was looked through once: the number that this gave, by which edition's reader, how many entries it has, and how many bytes.
 #[repr(C)]
-#[derive(Drop)]
+#[derive(Clone, Copy)]
 pub struct Opened {
     pub code: u32,
     pub reader: u32,
@@ -45,7 +46,7 @@ pub struct Opened {
 
 // What asking a bundle for one setting answers.
 #[repr(C)]
-#[derive(Drop)]
+#[derive(Clone, Copy)]
 pub struct Asked {
     pub code: u32,
     pub told: Told,
@@ -53,7 +54,7 @@ pub struct Asked {
 
 // What writing answers: the bundle's total length, 0 on a refusal.
 #[repr(C)]
-#[derive(Drop)]
+#[derive(Clone, Copy)]
 pub struct Written {
     pub code: u32,
     pub total: u32,

@@ -1,4 +1,6 @@
 // What some bytes are as a bundle, but for its tag: their size, the tests that come after the tag, and the entries cut out of them.
+#![tactic(auto)]
+
 mod cut;
 mod judge;
 

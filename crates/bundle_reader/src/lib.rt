@@ -1,4 +1,6 @@
 // A reader of each edition for settings bundles: one id asked for, or a bundle looked through once and then asked again and again.
+#![tactic(auto)]
+
 ghost use Rattle.std.specs.Prelude.{◌≡◌, ◌+◌, ◌≤◌, length, take, drop};
 ghost use Rattle.cmac.specs.Calls.{same};
 ghost use Rattle.bundle_format.specs.Format.{first_body, tag_of};

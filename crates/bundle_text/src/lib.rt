@@ -1,4 +1,6 @@
 // What a node sees of a bundle, as the list that a person reads and `make` takes: a line for each setting, laid in a lent buffer.
+#![tactic(auto)]
+
 ghost use Rattle.std.specs.Prelude.{◌≡◌, List, ◌++◌, ℕ, ◌+◌, ◌*◌, get_or};
 ghost use Rattle.differ_text.specs.Pieces.{Lays};
 ghost use Rattle.bundle_text.specs.Seen.{must_text, head_line, stated, entry_line};

@@ -1,4 +1,6 @@
 // A writer of each edition for settings bundles, to bytes that are lent.
+#![tactic(auto)]
+
 mod judge;
 mod put;
 

@@ -1,4 +1,6 @@
 // CMAC of NIST SP 800-38B over GIFT-128: the tag of a whole message, a tag checked, and a message fed in pieces to a state that the caller keeps.
+#![tactic(auto)]
+
 ghost use Rattle.std.specs.Prelude.{◌≡◌, cond, ◌++◌, ◌+◌, ◌*◌, ◌≤◌, eqb, length, take};
 ghost use Rattle.gift128.specs.Calls.{encrypted_by};
 ghost use Rattle.cmac_parts.specs.Standard.{◌⊕◌, zero_block, K1, K2, before, blocks, padded, last_block, chained};
@@ -16,7 +18,7 @@ const TAG_SIZE: usize = 16;
 // What is kept between pieces: the cipher's round words, the chaining block, and the bytes held back, of which `count`, 0 to 16, count.
 // A full block is held until more comes, since the last one is treated apart. No byte of the record is padding.
 #[repr(C)]
-#[derive(Drop)]
+#[derive(Clone, Copy)]
 pub struct Mac {
     pub words: [u32; 80],
     pub chain: [u8; 16],
@@ -26,7 +28,7 @@ pub struct Mac {
 
 // What starting answers.
 #[repr(C)]
-#[derive(Drop)]
+#[derive(Clone, Copy)]
 pub struct Started {
     pub code: u32,
     pub state: Mac,
@@ -34,7 +36,7 @@ pub struct Started {
 
 // What feeding a piece answers.
 #[repr(C)]
-#[derive(Drop)]
+#[derive(Clone, Copy)]
 pub struct Fed {
     pub code: u32,
     pub state: Mac,
@@ -42,7 +44,7 @@ pub struct Fed {
 
 // What checking a tag answers.
 #[repr(C)]
-#[derive(Drop)]
+#[derive(Clone, Copy)]
 pub struct Checked {
     pub code: u32,
     pub yes: bool,

@@ -1,4 +1,6 @@
 // What CMAC's calls are made of: the number that each gives, by lengths and the state's count, its refusals in the order that document 02 gives them; and the subkeys.
+#![tactic(auto)]
+
 ghost use Rattle.std.specs.Prelude.{◌≡◌, length, get_or};
 ghost use Rattle.published.specs.Calls.{block_code, key_code};
 ghost use Rattle.cmac_parts.specs.Standard.{shifted};

@@ -1,4 +1,6 @@
 // Counter mode of NIST SP 800-38A over GIFT-128, fed in pieces of any length to a stream that the caller keeps.
+#![tactic(auto)]
+
 ghost use Rattle.std.specs.Prelude.{◌≡◌, cond, ◌+◌, ◌*◌, ◌/◌, ◌%◌, ◌^◌, ◌<◌, ◌≤◌, eqb, length};
 ghost use Rattle.published.specs.Bytes.{to_bytes};
 ghost use Rattle.gift128.specs.Calls.{encrypted_by};
@@ -18,7 +20,7 @@ use packing::NUMBER;
 // last, how many of its bytes, 0 to 15, are not used yet, and whether the last counter is used (not if 0). There is one such state for each
 // position: where no byte is unused the block is zero, and where the stream is spent the counter is 0. No byte of the record is padding.
 #[repr(C)]
-#[derive(Drop)]
+#[derive(Clone, Copy)]
 pub struct Stream {
     pub words: [u32; 80],
     pub nonce: [u8; 12],
@@ -30,7 +32,7 @@ pub struct Stream {
 
 // What starting answers.
 #[repr(C)]
-#[derive(Drop)]
+#[derive(Clone, Copy)]
 pub struct Started {
     pub code: u32,
     pub stream: Stream,
@@ -38,14 +40,14 @@ pub struct Started {
 
 // What a piece answers.
 #[repr(C)]
-#[derive(Drop)]
+#[derive(Clone, Copy)]
 pub struct Fed {
     pub code: u32,
     pub stream: Stream,
 }
 
 // The numbers of a stream that move.
-#[derive(Drop)]
+#[derive(Clone, Copy)]
 struct Place {
     counter: u32,
     unused: u32,

@@ -1,4 +1,6 @@
 // The number that each call gives, by lengths and the stream's numbers: its refusals, in document 02's order, and nothing else.
+#![tactic(auto)]
+
 ghost use Rattle.std.specs.Prelude.{◌≡◌};
 ghost use Rattle.counter_orders.specs.Orders.{start_code, needed, left, enough, piece_code};
 

@@ -1,4 +1,6 @@
 // Where two bundles differ, by the reader of edition 2: the ids whose two answers are not the same, rising, each with both answers.
+#![tactic(auto)]
+
 ghost use Rattle.std.specs.Prelude.{◌≡◌, false, ◌++◌, ◌+◌, ◌*◌, ◌<◌, ◌≤◌, min, length, drop};
 ghost use Rattle.std.proofs.Math.Seq.{paste};
 ghost use Rattle.cmac.specs.Calls.{same};
@@ -13,7 +15,7 @@ const IDS: usize = 4294967296;
 
 // What comparing answers: 0, or the first number that applies; each bundle's number; and how many ids differ, 0 if a bundle is refused.
 #[repr(C)]
-#[derive(Drop)]
+#[derive(Clone, Copy)]
 pub struct Compared {
     pub code: u32,
     pub first: u32,
@@ -22,7 +24,7 @@ pub struct Compared {
 }
 
 // The id that was looked at, whether its answers differ, and where to go on.
-#[derive(Drop)]
+#[derive(Clone, Copy)]
 struct Step {
     low: usize,
     differs: bool,

@@ -1,4 +1,6 @@
 // What a person reads of two bundles, in pieces that are laid in a lent buffer: a line for each id that differs, and a line that counts; or each refused bundle's number.
+#![tactic(auto)]
+
 ghost use Rattle.std.specs.Prelude.{◌≡◌, List, ◌++◌, ◌∷◌, [], ℕ, ◌+◌, ◌*◌, ◌≤◌, min, take, get_or};
 ghost use Rattle.published.specs.Bytes.{from_bytes};
 ghost use Rattle.text.specs.Decimal.{decimal_of};

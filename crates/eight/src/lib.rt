@@ -1,5 +1,7 @@
 // Many blocks at once: the cipher's rounds in four lanes, which the compiler puts into wide registers, and two or three such fours side by side, which the processor
 // overlaps. Each loop here is a function of its own whose body calls one function at one place: so it is that the compiler makes it wide.
+#![tactic(auto)]
+
 ghost use Rattle.std.specs.Prelude.{◌≡◌, true, false, cond, ◌*◌, ◌%◌, ◌≤◌, leb, length, take, drop};
 ghost use Rattle.published.specs.Blocks.{all_of, joined};
 ghost use Rattle.published.specs.Gift128.{rounds_all};
@@ -16,7 +18,7 @@ use primitives::{State, swapmove};
 use quintuple::{Part, by_part, inv_by_part, part_at};
 
 // Four states, word by word: the words s0 of all of them, s1, s2 and s3. Four arrays, because a wide register then has the same word of several lanes.
-#[derive(Drop)]
+#[derive(Clone, Copy)]
 struct Lanes {
     a: [u32; 4],
     b: [u32; 4],
@@ -183,7 +185,7 @@ fn each_unround(s: Lanes, p: Part) -> Lanes
 
 // ---- two fours or three
 
-#[derive(Drop)]
+#[derive(Clone, Copy)]
 struct Three {
     x: Lanes,
     y: Lanes,

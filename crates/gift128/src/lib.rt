@@ -1,4 +1,6 @@
 // GIFT-128: one block and many, by a key, by round words and by a `Gift128`, in either order. The two block functions of lib.rs, with refusals.
+#![tactic(auto)]
+
 mod orders;
 
 ghost use Rattle.std.specs.Prelude.{◌≡◌, true, false, ◌+◌, ◌%◌, ◌≤◌, length, replicate};
@@ -21,14 +23,14 @@ use slices::all_groups;
 
 // A cipher instance: its eighty round words. One made from a refused key has eighty zero words, which are those of the all-zero key.
 #[repr(C)]
-#[derive(Drop)]
+#[derive(Clone, Copy)]
 pub struct Gift128 {
     pub k: [u32; 80],
 }
 
 // What making one answers.
 #[repr(C)]
-#[derive(Drop)]
+#[derive(Clone, Copy)]
 pub struct Made {
     pub code: u32,
     pub cipher: Gift128,

@@ -1,4 +1,6 @@
 // GIFT-64: one block and many, by a key. Sliced rounds over the boxes of GIFT-128, by 28 round words.
+#![tactic(auto)]
+
 mod orders;
 mod rounds;
 mod words;

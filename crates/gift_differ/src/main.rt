@@ -1,4 +1,6 @@
 // Reads first.bundle, second.bundle and key in the folder where it is run, and writes where the two bundles differ. What it writes is proved in `differ_text`, of any bytes.
+#![tactic(auto)]
+
 ghost use Rattle.std.specs.Prelude.{◌≤◌, length};
 
 use differ::Compared;

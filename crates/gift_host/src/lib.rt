@@ -1,5 +1,7 @@
 // What a host links, under C names: each function hands its arguments on to the proved call of the same meaning and gives back its answer.
 // The host's side of it is include/gift_host.h.
+#![tactic(auto)]
+
 ghost use Rattle.std.specs.Prelude.{◌≡◌, true, false};
 ghost use Rattle.published.specs.Calls.{CiphersByKey};
 ghost use Rattle.published.specs.Calls64.{CiphersByKey64, CiphersBlocks64};

@@ -1,4 +1,6 @@
 // The line program: feeds the bytes of standard input to `lines`, and writes what comes. What it answers is proved there, for every input.
+#![tactic(auto)]
+
 ghost use Rattle.std.specs.Prelude.{◌≤◌};
 
 use libc::{STDERR_FILENO, STDIN_FILENO, STDOUT_FILENO};
@@ -7,7 +9,7 @@ use text::Text;
 
 // How far reading came. Nothing more comes at the end of the input, and where a read or a write failed.
 #[repr(C)]
-#[derive(Drop)]
+#[derive(Clone, Copy)]
 struct Reading {
     reader: Reader,
     more: bool,

@@ -1,4 +1,6 @@
 // key_schedule.rs: the eighty round words of a key, V and U of each round, each kept in its round's arrangement.
+#![tactic(auto)]
+
 ghost use Rattle.std.specs.Prelude.{◌≡◌, ◌%◌, length};
 ghost use Rattle.published.specs.Bytes.{from_bytes};
 ghost use Rattle.round_words.specs.Arranged.{arranged};
@@ -243,7 +245,7 @@ fn key_five_update_4(x: u64) -> u64
 
 // V and U of two rounds.
 #[repr(C)]
-#[derive(Drop)]
+#[derive(Clone, Copy)]
 pub struct Four {
     pub v0: u32,
     pub u0: u32,
@@ -253,7 +255,7 @@ pub struct Four {
 
 // V and U of five rounds, and, in the high halves, of the five rounds after them.
 #[repr(C)]
-#[derive(Drop)]
+#[derive(Clone, Copy)]
 struct Twenty {
     v0: u64,
     u0: u64,

@@ -1,4 +1,6 @@
 // One lane's record: whether it is sound, whom it admits, and the idle one.
+#![tactic(auto)]
+
 ghost use Rattle.std.specs.Prelude.{◌≡◌, eqb};
 ghost use Rattle.lane.specs.Record.{all_zero, everything, sound_lane, admits, idle_lane};
 
@@ -23,7 +25,7 @@ pub const DECRYPT: u8 = 1;
 // The owner is the guest that opened the lane, and 0 while it is idle; the count is of the lane's own turns; the order is that of its block's bytes. No byte
 // of the record is padding.
 #[repr(C)]
-#[derive(Drop)]
+#[derive(Clone, Copy)]
 pub struct Lane {
     pub phase: u8,
     pub direction: u8,

@@ -1,4 +1,6 @@
 // What a lane does: its opening, a turn of its own, and what it yields.
+#![tactic(auto)]
+
 ghost use Rattle.std.specs.Prelude.{◌≡◌, ◌<◌};
 ghost use Rattle.lane_turns.specs.Turns.{opened, advanced, served, yielded};
 

@@ -1,4 +1,6 @@
 // The answer to one line: whether it is good, and what its letter asks for.
+#![tactic(auto)]
+
 ghost use Rattle.std.specs.Prelude.{◌≡◌, true, List, ◌++◌, ℕ, ◌+◌, ◌*◌, ◌%◌, ◌<◌, length, get_or};
 ghost use Rattle.published.specs.Bytes.{to_bytes};
 ghost use Rattle.text.specs.Hex.{value_of, all_hex, bytes_of, hex_of};

@@ -1,4 +1,6 @@
 // A line in, a line out: the line program of document 01, all but the reading and writing.
+#![tactic(auto)]
+
 ghost use Rattle.std.specs.Prelude.{◌≡◌, List, ◌++◌, ℕ, min};
 ghost use Rattle.text.specs.Written.{written};
 ghost use Rattle.lines.specs.Input.{answer_line, first_line, done_line};
@@ -16,7 +18,7 @@ pub fn first_line() -> Text
 
 // The bytes of a line that has begun, the first 68 of them, and how many lines there were before it.
 #[repr(C)]
-#[derive(Drop)]
+#[derive(Clone, Copy)]
 pub struct Reader {
     pub line: [u8; 68],
     pub count: usize,
@@ -25,7 +27,7 @@ pub struct Reader {
 
 // What a byte of input leads to.
 #[repr(C)]
-#[derive(Drop)]
+#[derive(Clone, Copy)]
 pub struct Fed {
     pub reader: Reader,
     pub text: Text,

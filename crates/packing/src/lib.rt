@@ -1,6 +1,8 @@
 // Packing and unpacking of primitives.rs: the sixteen bytes of a block, in either order, and the four words in which its bits are kept: bit i of word j is bit 4i + j of the block.
 // In order 0 a block is two halves of 64 bits. Bit 4i + j of a half goes to place 16j + i, so that the half's sixteen bits of word j stand together, as its piece j;
 // word j is piece j of the upper half above piece j of the lower.
+#![tactic(auto)]
+
 ghost use Rattle.std.specs.Prelude.{◌≡◌, ◌+◌, ◌*◌, ◌^◌, ◌<◌, length};
 ghost use Rattle.bits.specs.Digit.{digit};
 ghost use Rattle.published.specs.Bytes.{to_bytes};

@@ -1,4 +1,6 @@
 // The plain engine: GIFT as documents 01 and 02 write it, to be read beside them. Nothing of the sliced engines is used.
+#![tactic(auto)]
+
 mod steps;
 
 ghost use Rattle.std.specs.Prelude.{◌≡◌, true, false, ◌*◌, ◌%◌, ◌≤◌, length};

@@ -1,4 +1,6 @@
 // The key's part of the plain engine: what the members differ in, the pairs that a round takes of a key state, its update, and the number that a call by a key gives.
+#![tactic(auto)]
+
 ghost use Rattle.std.specs.Prelude.{◌≡◌, ◌<◌};
 ghost use Rattle.published.specs.Key.{ror16, update};
 ghost use Rattle.published.specs.Calls.{key_code};

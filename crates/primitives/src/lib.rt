@@ -1,11 +1,13 @@
 // The bit part of primitives.rs: rotations inside words, halves, bytes and nibbles, swaps of bits, and the four words of a state.
+#![tactic(auto)]
+
 ghost use Rattle.std.specs.Prelude.{◌≡◌, ◌∷◌, [], ◌%◌, ◌<◌};
 ghost use Rattle.published.specs.Bytes.{from_bytes};
 ghost use Rattle.primitives.specs.Words.{permuted, ror_in, swapped_low, swapped_high, swapped_single};
 
 // The four words of a state.
 #[repr(C)]
-#[derive(Drop)]
+#[derive(Clone, Copy)]
 pub struct State {
     pub s0: u32,
     pub s1: u32,
@@ -86,7 +88,7 @@ pub fn nibble_ror_3(x: u32) -> u32
 }
 
 // The two words of a swap.
-#[derive(Drop)]
+#[derive(Clone, Copy)]
 pub struct Two {
     pub a: u32,
     pub b: u32,

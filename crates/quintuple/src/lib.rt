@@ -1,4 +1,6 @@
 // The boxes and rounds of primitives.rs: the S-box and its inverse, five rounds and their undoing.
+#![tactic(auto)]
+
 ghost use Rattle.std.specs.Prelude.{◌≡◌, cond, ◌%◌, ◌≤◌, length};
 ghost use Rattle.published.specs.Rounds.{entry};
 ghost use Rattle.published.specs.Inner.{unentry};
@@ -209,7 +211,7 @@ fn starts(rkey: &[u32], i: usize) -> bool
 }
 
 // What a quintuple goes by, all read before its first round: for each of five rounds the words for V and U, and its constant.
-#[derive(Drop)]
+#[derive(Clone, Copy)]
 pub struct Part {
     pub v0: u32,
     pub u0: u32,
@@ -229,7 +231,7 @@ pub struct Part {
 }
 
 // The constants of a quintuple.
-#[derive(Drop)]
+#[derive(Clone, Copy)]
 struct FiveConstants {
     c0: u32,
     c1: u32,

@@ -3,6 +3,8 @@
 // Standard input is a file. A line of it is a case, the name of a call and fields (text.rt), or `## TEXT`, a heading, under which the cases
 // after it are counted, or `# TEXT`, a remark, or it tells a record of the bench (benches.rt). The last line of the output says how many
 // cases were equal and how many different. The cases that the gate replays stand in the file stdin beside src/.
+#![tactic(auto)]
+
 mod benches;
 mod bundles;
 mod cipher;
@@ -22,7 +24,7 @@ const LINE: usize = 4096;
 
 // Where the next line begins, how many cases were equal and how many different, how many were equal before the last heading, the bench, and
 // the bench as it is to be after the next call.
-#[derive(Drop)]
+#[derive(Clone, Copy)]
 struct Run {
     at: u64,
     equal: u64,

@@ -20,7 +20,7 @@ const DIGITS: usize = 8 * WORDS;
 const MOST: usize = DIGITS - 8;
 
 // A field, seen as bytes and seen as words: how many of each there are, one that is not whole among them, and zeros after them.
-#[derive(Drop)]
+#[derive(Clone, Copy)]
 pub(crate) struct Part {
     pub(crate) n: usize,
     pub(crate) m: usize,
@@ -29,7 +29,7 @@ pub(crate) struct Part {
 }
 
 // How far the reading of a field has come: its digits so far, and the last eight.
-#[derive(Drop)]
+#[derive(Clone, Copy)]
 struct At {
     digits: usize,
     word: u32,

@@ -1,4 +1,6 @@
 // Eighty round words and the forty pairs U, V that they stand for: the four rearrangements of key_schedule.rs, and, for whoever makes its own words, each as the other.
+#![tactic(auto)]
+
 ghost use Rattle.std.specs.Prelude.{◌≡◌, ◌<◌, length};
 ghost use Rattle.round_words.specs.Arranged.{arranged};
 ghost use Rattle.round_words.specs.Calls.{row_code, TellsPairs, TellsWords};

@@ -1,5 +1,7 @@
 // Sixty-four blocks at once, in slices: word q has bit q of every block. Nothing is arranged here: these are the published rounds, bit by bit, as document 01
 // has them, on 64 blocks at a time; P is a matter of which word is written, and the key's bits are masks.
+#![tactic(auto)]
+
 ghost use Rattle.std.specs.Prelude.{◌≡◌, cond, ℕ, suc, ◌+◌, ◌-◌, ◌*◌, ◌/◌, ◌%◌, ◌^◌, ◌≤◌, ◌<◌, length, get_or, eqb};
 ghost use Rattle.published.specs.Blocks.{all_of};
 ghost use Rattle.published.specs.Gift128.{rounds128, unrounds128, rounds_all};
@@ -17,7 +19,7 @@ use turning::{from_slices, to_slices};
 // ---- 1. the S-box
 
 // Four slices: a nibble in every lane, s0 its lowest bit.
-#[derive(Drop)]
+#[derive(Clone, Copy)]
 struct Nibble {
     s0: u64,
     s1: u64,

@@ -1,4 +1,6 @@
 // A short text in a record: bytes, decimal and hex digits pushed behind each other.
+#![tactic(auto)]
+
 ghost use Rattle.std.specs.Prelude.{◌≡◌, List, ◌++◌, ◌∷◌, [], ℕ, ◌<◌, get_or};
 ghost use Rattle.text.specs.Hex.{hex_digits, hex_of};
 ghost use Rattle.text.specs.Decimal.{decimal_of};
@@ -6,7 +8,7 @@ ghost use Rattle.text.specs.Written.{written};
 
 // A text of up to 64 bytes.
 #[repr(C)]
-#[derive(Drop)]
+#[derive(Clone, Copy)]
 pub struct Text {
     pub bytes: [u8; 64],
     pub count: usize,

@@ -1,5 +1,7 @@
 // Sixty-four blocks turned into slices and back: 128 words of 64 bits, word q having bit q of every block, that of block b at its place b.
 // A transposition of bits in two passes over 128 words, each of three levels on eight words at a time, which stay in registers.
+#![tactic(auto)]
+
 ghost use Rattle.std.specs.Prelude.{◌≡◌, cond, [], ◌∷◌, ◌++◌, ℕ, ◌+◌, ◌-◌, ◌*◌, ◌/◌, ◌%◌, ◌<◌, length, get_or};
 ghost use Rattle.bits.specs.Digit.{bit};
 ghost use Rattle.published.specs.Bytes.{to_bytes};
@@ -12,7 +14,7 @@ use packing::{NUMBER, bytes};
 
 // ---- the transposition
 
-#[derive(Drop)]
+#[derive(Clone, Copy)]
 struct Two {
     a: u64,
     b: u64,
@@ -30,7 +32,7 @@ fn cross(a: u64, b: u64, n: u32, mask: u64) -> Two
     }
 }
 
-#[derive(Drop)]
+#[derive(Clone, Copy)]
 struct Eight {
     w0: u64,
     w1: u64,

@@ -1,0 +1,16 @@
+-- `text::push_all` holds, at each turn, the bytes passed so far.
+use mathlib.Core.Path.{◌≡◌, refl, ap, ◌∙◌}
+use mathlib.Core.List.{List, ◌++◌, append-nil}
+use Prim.Native.Nat.{ℕ, ◌≤◌, ◌-◌}
+use native.Mathlib.Omega.{arith}
+use lib.ListN.{length, take}
+use lib.Seq.{take_all}
+use Rattle.text.specs.Written.{written}
+use Rattle.text.proofs.Texts.{grows}
+use Rattle.text.proofs.push_all.Given as goal
+
+abbrev pub invariant-loop-i : goal.invariant-loop-i
+invariant-loop-i s = (s.i ≤ length s.bs) × ((l : List ℕ) → s.initial.r ≡ written l → s.r ≡ written (l ++ take s.i s.bs))
+
+abbrev pub decreases-loop-i : goal.decreases-loop-i
+decreases-loop-i l = length l.bs - l.i

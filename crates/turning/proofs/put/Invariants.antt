@@ -1,0 +1,14 @@
+-- `turning::put` copies one byte a turn.
+use mathlib.Core.Path.{◌≡◌, refl, sym, ◌∙◌}
+use Prim.Native.Nat.{◌+◌, ◌-◌, ◌≤◌}
+use native.Mathlib.Omega.{arith}
+use lib.ListN.{length}
+use borrow.Author.Rules.{rules}
+use Rattle.bits.proofs.Filling.{written, written-length, written_more, written_all}
+use Rattle.turning.proofs.put.Given as goal
+
+abbrev pub invariant-loop-i : goal.invariant-loop-i
+invariant-loop-i l = (l.i ≤ 8) × (l.output ≡ written l.eight l.initial.output l.i) × (length l.eight ≡ length l.initial.output) × (length l.output ≡ 8)
+
+abbrev pub decreases-loop-i : goal.decreases-loop-i
+decreases-loop-i l = 8 - l.i

@@ -1,0 +1,12 @@
+-- `turning::put_block`: eight bytes, and eight.
+use mathlib.Core.Path.{◌∙◌}
+use borrow.Author.Rules.{rules}
+use Rattle.published.specs.Bytes.{to_bytes}
+use Rattle.published.proofs.Reading.{length_to_bytes}
+use Rattle.turning.proofs.Blocks.{laid}
+use Rattle.turning.proofs.put_block.Goals as goal
+
+pub returns : goal.returns
+returns c =
+    laid (to_bytes 8 c.args.high) (to_bytes 8 c.args.low) c.args.output.now c.put.new.output c.put-2.new.output
+    (length_to_bytes 8 c.args.high) c.requires (c.put.ensures ∙ c.bytes.ensures) (c.put-2.ensures ∙ c.bytes-2.ensures)

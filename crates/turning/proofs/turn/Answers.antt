@@ -1,0 +1,8 @@
+-- `turning::turn`: both passes.
+use borrow.Author.Rules.{rules}
+use Rattle.turning.proofs.Passes.{both_passes}
+use Rattle.turning.proofs.turn.Goals as goal
+
+pub returns : goal.returns
+returns c =
+    both_passes _ _ _ c.wide.ensures c.narrow.ensures
