@@ -5,7 +5,7 @@ use Prim.Native.Nat.{ℕ, zero, suc, ◌+◌, ◌-◌, ◌*◌, ◌/◌, ◌%◌
 use native.Mathlib.Nat.{div-one}
 use native.Mathlib.Omega.{arith}
 use lib.ListN.{length, take, drop, get_or, length-append, drop_of_length-le}
-use lib.Seq.{length-take-le, sets, sets_eq, take_at, take_all, drop-drop}
+use lib.Seq.{length-take-le, sets, sets-eq, take_at, take_all, drop-drop}
 use borrow.Rule.Slice.PartMut.{put_mid, post_of, same_len_mid, mid_len, Post-is, drop_put}
 use Rattle.bits.specs.Digit.{digit}
 use Rattle.published.specs.Bytes.{to_bytes}
@@ -22,7 +22,7 @@ use Rattle.bundle_writer.proofs.Lent.{rows_more, length-list, list-placed, bodie
 
 pub stored : (l bs : List ℕ) → length l ≡ length bs → sets l 0 bs ≡ bs
 stored l bs e =
-    sets_eq bs l 0 (omega arith) ∙ ap (λ (x : List ℕ). bs ++ x) (drop_of_length-le l {i = 0 + length bs} (omega arith)) ∙ append-nil bs
+    sets-eq bs l 0 (omega arith) ∙ ap (λ (x : List ℕ). bs ++ x) (drop_of_length-le l {i = 0 + length bs} (omega arith)) ∙ append-nil bs
 
 abbrev header_digits : (edition count total : ℕ) → List ℕ
 header_digits edition count total =

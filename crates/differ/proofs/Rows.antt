@@ -5,7 +5,7 @@ use mathlib.Core.List.{List, [], ◌∷◌, ◌++◌, append_assoc, append-nil}
 use Prim.Native.Nat.{ℕ, ◌+◌, ◌-◌, ◌*◌, ◌<◌, ◌≤◌}
 use native.Mathlib.Omega.{arith}
 use lib.ListN.{length, take, drop, length-append, drop_of_length-le, take-append-drop}
-use lib.Seq.{sets, sets_eq, take_all, drop-drop, paste, take-paste, drop-paste, length-paste}
+use lib.Seq.{sets, sets-eq, take_all, drop-drop, paste, take-paste, drop-paste, length-paste}
 use borrow.Rule.Slice.PartMut.{put_mid, Post-is}
 use Rattle.differ.specs.Difference.{Line, numbers, numbers_of, lines_from, ids}
 use Rattle.differ.specs.Inner.{line_if, Steps}
@@ -15,7 +15,7 @@ pub nine-stored : (l : List ℕ) (line : Line) → length l ≡ 9
     → sets l 0 (line.id ∷ line.one.state ∷ line.one.kind ∷ line.one.at ∷ line.one.len ∷ line.two.state ∷ line.two.kind ∷ line.two.at ∷ line.two.len ∷ []) ≡ numbers line
 unfolding numbers
 nine-stored l line e =
-    sets_eq (numbers line) l 0 (omega arith) ∙ ap (λ (x : List ℕ). numbers line ++ x) (drop_of_length-le l {i = 9} (omega arith)) ∙ append-nil (numbers line)
+    sets-eq (numbers line) l 0 (omega arith) ∙ ap (λ (x : List ℕ). numbers line ++ x) (drop_of_length-le l {i = 9} (omega arith)) ∙ append-nil (numbers line)
 
 pub length-numbers_of : (ls : List Line) → length (numbers_of ls) ≡ 9 * length ls
 unfolding numbers_of numbers
