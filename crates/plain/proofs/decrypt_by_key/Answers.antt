@@ -4,28 +4,26 @@ use mathlib.Core.Bool.{true}
 use Prim.Native.Nat.{ℕ, ◌*◌}
 use native.Mathlib.Omega.{arith}
 use lib.ListN.{length}
-use borrow.Author.Rules.{rules}
 use Rattle.answers.proofs.Outcome.{refuses, done}
 use Rattle.published.specs.Bytes.{from_bytes, to_bytes}
 use Rattle.published.specs.Gift128.{pairs_of, decrypted}
 use Rattle.published.proofs.Calls.{key-passed}
 use Rattle.plain.specs.Inner.{rounds_by}
-use Rattle.plain.proofs.decrypt_by_key.Goals.{Else-code-ne-DONE}
 use Rattle.plain.proofs.decrypt_by_key.Goals as goal
 
-passed : (c : Else-code-ne-DONE) → (length c.args.key.now ≡ 16) × (length c.args.block.now ≡ 16)
-passed c = key-passed _ _ (sym c.key_code-code.ensures ∙ c.if-code-ne-DONE.false)
-
 pub cross-requires : goal.cross-requires
-cross-requires c = let ok = passed c.before.before in record { key_len = ok.0; s_len = (omega (arith, ok.1), omega (arith, ok.1), omega (arith, ok.1), omega (arith, ok.1)) }
+cross-requires c =
+    let passed : (length c.args.key.now ≡ 16) × (length c.args.block.now ≡ 16) = key-passed _ _ (sym c.key_code-code.ensures ∙ c.if-code-ne-DONE.false) in
+    record { key_len = passed.0; s_len = (omega (arith, passed.1), omega (arith, passed.1), omega (arith, passed.1), omega (arith, passed.1)) }
 
 pub returns : goal.returns
 unfolding decrypted pairs_of
 returns c =
+    let passed : (length c.args.key.now ≡ 16) × (length c.args.block.now ≡ 16) = key-passed _ _ (sym c.key_code-code.ensures ∙ c.if-code-ne-DONE.false) in
     let a = c.args in
     done c.key_code-code.ensures c.if-code-ne-DONE.false
     (c.cross.ensures
-    ∙ ap (λ (n : ℕ). to_bytes n (rounds_by true (2 * n) (from_bytes a.key.now) (from_bytes a.block.now))) (passed c.before.before.before.before.before.before).1)
+    ∙ ap (λ (n : ℕ). to_bytes n (rounds_by true (2 * n) (from_bytes a.key.now) (from_bytes a.block.now))) passed.1)
 
 pub returns-then-code-ne-DONE : goal.returns-then-code-ne-DONE
 returns-then-code-ne-DONE c = refuses c.key_code-code.ensures c.if-code-ne-DONE.true

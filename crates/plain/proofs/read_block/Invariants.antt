@@ -1,9 +1,8 @@
 -- `plain::read_block`: the nibbles of the last i bytes are there.
 use Prim.Native.Nat.{◌-◌, ◌≤◌}
-use native.Mathlib.Omega.{arith}
-use lib.ListN.{length, length-set}
+use lib.ListN.{length}
 use Rattle.published.specs.Bytes.{from_bytes}
-use Rattle.plain.proofs.Bytes.{Read, read_none, read_next, read_all}
+use Rattle.plain.proofs.Bytes.{Read}
 use Rattle.plain.proofs.read_block.Given as goal
 
 abbrev pub invariant-loop-i : goal.invariant-loop-i

@@ -1,9 +1,7 @@
 -- `plain::read_key`: the words of the first i pairs of bytes are there. (That bytes are bytes is known where one is read.)
-use Prim.Native.Nat.{◌+◌, ◌-◌, ◌*◌, ◌≤◌, ◌<◌}
-use native.Mathlib.Omega.{arith}
-use lib.ListN.{get_or}
+use Prim.Native.Nat.{◌-◌, ◌≤◌, ◌<◌}
 use Rattle.published.specs.Bytes.{from_bytes, Bytes}
-use Rattle.plain.proofs.Bytes.{KeyRead, key_none, key_next, key_all}
+use Rattle.plain.proofs.Bytes.{KeyRead}
 use Rattle.plain.proofs.read_key.Given as goal
 
 abbrev pub invariant-loop-i : goal.invariant-loop-i

@@ -1,7 +1,6 @@
 -- `plain::through`: the rounds done, or undone, from the first on.
 use mathlib.Core.Path.{refl}
 use Prim.Native.Nat.{zero-le}
-use borrow.Author.Rules.{rules}
 use Rattle.published.specs.Rounds.{constant}
 use Rattle.plain.proofs.through.Goals as goal
 

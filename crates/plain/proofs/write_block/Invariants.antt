@@ -1,9 +1,8 @@
 -- `plain::write_block`: the last i bytes are there.
-use Prim.Native.Nat.{◌+◌, ◌-◌, ◌*◌, ◌≤◌}
-use native.Mathlib.Omega.{arith}
+use Prim.Native.Nat.{◌-◌, ◌≤◌}
 use lib.ListN.{length}
 use Rattle.plain.specs.Inner.{state_of}
-use Rattle.plain.proofs.Bytes.{Written, written_none, written_next, written_all}
+use Rattle.plain.proofs.Bytes.{Written}
 use Rattle.plain.proofs.write_block.Given as goal
 
 abbrev pub invariant-loop-i : goal.invariant-loop-i

@@ -1,7 +1,7 @@
 -- `plain::steps::add_constant`: after the highest bit, the nibbles below i have their bits of the constant.
 use mathlib.Core.Path.{◌≡◌, ◌∙◌}
 use mathlib.Core.List.{List}
-use Prim.Native.Nat.{ℕ, ◌-◌, ◌*◌, ◌≤◌}
+use Prim.Native.Nat.{ℕ, ◌-◌, ◌*◌}
 use native.Mathlib.Omega.{arith}
 use lib.Dec.{lit<}
 use lib.ListN.{length}
@@ -9,23 +9,24 @@ use Rattle.bits.specs.Digit.{bit}
 use Rattle.bits.proofs.Bits.{one_lt}
 use Rattle.plain.specs.Inner.{Nibbles, one_at}
 use Rattle.plain.proofs.Nibbles.{again, same_length}
-use Rattle.plain.proofs.Flips.{Flipped, none_flipped, then_flipped}
+use Rattle.plain.proofs.Flips.{none_flipped, then_flipped}
 use Rattle.plain.proofs.Adding.{below, none_below, constant_at, constant_next, constant_whole}
-use Rattle.plain.proofs.steps.add_constant.Goals.{After-xor_bit}
 use Rattle.plain.proofs.steps.add_constant.Goals as goal
-
-flipped : (c : After-xor_bit) → Nibbles c.xor_bit.new.s
-flipped c = again c.args.s.now _ c.xor_bit.ensures c.requires
 
 pub xor_bit-requires : goal.xor_bit-requires
 xor_bit-requires c = record { nibbles = c.requires; q_bound = omega arith; b_bound = lit< tt }
 
 pub loop-i-init : goal.loop-i-init
-loop-i-init c = (omega arith, none_flipped c.xor_bit.new.s _ (flipped c.before.before).small (λ q h. none_below (constant_at c.args.c) q))
+loop-i-init c =
+    let flipped : Nibbles c.xor_bit.new.s = again c.args.s.now _ c.xor_bit.ensures c.requires in
+    (omega arith, none_flipped c.xor_bit.new.s _ flipped.small (λ q h. none_below (constant_at c.args.c) q))
 
 pub xor_bit-requires-in-loop-i : goal.xor_bit-requires-in-loop-i
-xor_bit-requires-in-loop-i c = let l = c.loop-i in
-    let ok = again c.xor_bit.new.s _ l.invariant.1 (flipped c.before.before.before.before.before.before) in record { nibbles = ok; q_bound = omega (arith, ok.least); b_bound = rw c.bit.ensures (one_lt (bit c.args.c l.i)) }
+xor_bit-requires-in-loop-i c =
+    let l = c.loop-i in
+    let flipped : Nibbles c.xor_bit.new.s = again c.args.s.now _ c.xor_bit.ensures c.requires in
+    let ok = again c.xor_bit.new.s _ l.invariant.1 flipped in
+    record { nibbles = ok; q_bound = omega (arith, ok.least); b_bound = rw c.bit.ensures (one_lt (bit c.args.c l.i)) }
 
 pub loop-i-preserved : goal.loop-i-preserved
 loop-i-preserved c =

@@ -2,7 +2,7 @@
 use mathlib.Core.Path.{◌≡◌, refl}
 use mathlib.Core.Bool.{Bool}
 use mathlib.Core.List.{List}
-use Prim.Native.Nat.{ℕ, ◌+◌, ◌-◌, ◌*◌, ◌≤◌}
+use Prim.Native.Nat.{ℕ, ◌+◌, ◌*◌}
 use native.Mathlib.Omega.{arith}
 use lib.ListN.{length}
 use Rattle.bits.specs.Digit.{bit, ◌⊕◌}
@@ -12,23 +12,11 @@ use Rattle.plain.specs.Inner.{one_at, pair}
 use Rattle.plain.proofs.Nibbles.{again, same_length}
 use Rattle.plain.proofs.Flips.{Flipped, none_flipped, then_flipped, as_flipped}
 use Rattle.plain.proofs.Adding.{below, none_below, all_below, key_next}
-use Rattle.plain.proofs.steps.add_round_key.Goals.{After-xor_bit, At-loop-i, Start}
 use Rattle.plain.proofs.steps.add_round_key.Goals as goal
 
+-- the bits before nibble i, and the first of the two in it
 abbrev halfway : (j u v i b : ℕ) → ℕ → Bool
 halfway j u v i b q = below (key_bit j (pair u v)) i q ⊕ one_at (4 * i + j + 1) b q
-
-abbrev entry : After-xor_bit → Start
-entry c = c.before.before.before.before.before.before
-
-abbrev at : After-xor_bit → At-loop-i
-at c = c.before.before.before.before
-
-once : (c : After-xor_bit)
-    → Flipped (entry c).args.s.now (halfway (entry c).args.j (entry c).args.u (entry c).args.v (at c).loop.i c.bit.result) c.xor_bit.new.s
-once c =
-    let a = (entry c).args in
-    then_flipped a.s.now (below (key_bit a.j (pair a.u a.v)) (at c).loop.i) _ _ (at c).loop.invariant.1 c.xor_bit.ensures (λ q h. refl)
 
 pub loop-i-init : goal.loop-i-init
 loop-i-init c =
@@ -39,17 +27,26 @@ pub xor_bit-requires : goal.xor_bit-requires
 xor_bit-requires c = let l = c.loop-i in record { nibbles = again c.args.s.now _ l.invariant.1 c.requires.0; q_bound = omega (arith, same_length c.args.s.now _ l.invariant.1); b_bound = rw c.bit.ensures (one_lt (bit c.args.u l.i)) }
 
 pub xor_bit-requires-in-loop-i : goal.xor_bit-requires-in-loop-i
-xor_bit-requires-in-loop-i c = let l = (at c.before.before.before.before).loop in
-    let start = entry c.before.before.before.before in record { nibbles = again start.args.s.now _ (once c.before.before.before.before) start.pre.0; q_bound = omega (arith, same_length start.args.s.now _ (once c.before.before.before.before)); b_bound = rw c.bit-in-loop-i.ensures (one_lt (bit start.args.v l.i)) }
+xor_bit-requires-in-loop-i c =
+    let a = c.args in
+    let l = c.loop-i in
+    let once : Flipped a.s.now (halfway a.j a.u a.v l.i c.bit.result) c.xor_bit.new.s =
+    then_flipped a.s.now (below (key_bit a.j (pair a.u a.v)) l.i) _ _ l.invariant.1 c.xor_bit.ensures (λ q h. refl) in
+    record {
+      nibbles = again a.s.now _ once c.requires.0;
+      q_bound = omega (arith, same_length a.s.now _ once);
+      b_bound = rw c.bit-in-loop-i.ensures (one_lt (bit a.v l.i));
+    }
 
 pub loop-i-preserved : goal.loop-i-preserved
 loop-i-preserved c =
-    let l = (at c.before.before.before.before.before.before.before).loop in
-    let start = entry c.before.before.before.before.before.before.before in
-    let a = start.args in (
+    let a = c.args in
+    let l = c.loop-i in
+    let once : Flipped a.s.now (halfway a.j a.u a.v l.i c.bit.result) c.xor_bit.new.s =
+    then_flipped a.s.now (below (key_bit a.j (pair a.u a.v)) l.i) _ _ l.invariant.1 c.xor_bit.ensures (λ q h. refl) in (
       omega arith,
-      then_flipped a.s.now (halfway a.j a.u a.v l.i c.bit.result) _ _ (once c.before.before.before.before.before.before.before) c.xor_bit-in-loop-i.ensures
-          (λ q h. key_next a.j start.pre.1 (pair a.u a.v) l.i c.bit.result c.bit-in-loop-i.result c.bit.ensures c.bit-in-loop-i.ensures q),
+      then_flipped a.s.now (halfway a.j a.u a.v l.i c.bit.result) _ _ once c.xor_bit-in-loop-i.ensures
+          (λ q h. key_next a.j c.requires.1 (pair a.u a.v) l.i c.bit.result c.bit-in-loop-i.result c.bit.ensures c.bit-in-loop-i.ensures q),
     )
 
 pub returns : goal.returns

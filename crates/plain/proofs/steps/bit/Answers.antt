@@ -3,7 +3,6 @@ use mathlib.Core.Path.{sym, ◌∙◌}
 use Prim.Native.Nat.{◌/◌, ◌^◌}
 use native.Mathlib.Omega.{arith}
 use lib.Bits.{and_le_r, and_mask}
-use borrow.Author.Rules.{rules}
 use Rattle.bits.specs.Digit.{digit}
 use Rattle.bits.proofs.Bits.{one_bit}
 use Rattle.plain.proofs.steps.bit.Goals as goal

@@ -1,29 +1,26 @@
 -- `plain::steps::perm_bits`: the bits below i have moved.
 use mathlib.Core.Path.{◌≡◌, sym, ap, ◌∙◌}
 use mathlib.Core.List.{List}
-use Prim.Native.Nat.{ℕ, ◌-◌, ◌*◌, ◌≤◌}
+use Prim.Native.Nat.{ℕ, ◌*◌}
 use native.Mathlib.Omega.{arith}
 use lib.ListN.{length, take}
-use borrow.Author.Rules.{rules}
 use Rattle.bits.specs.Digit.{bit}
 use Rattle.bits.proofs.Bits.{one_lt}
 use Rattle.published.specs.Rounds.{P, moved, perm_bits, xored}
 use Rattle.plain.specs.Inner.{state_of, nibbles_of, by, one_at}
 use Rattle.plain.proofs.Nibbles.{length-nibbles_of, take-nibbles_of, nibbles_32, width_of}
 use Rattle.plain.proofs.Moving.{zeros, moved_next}
-use Rattle.plain.proofs.steps.perm_bits.Goals.{At-loop-i}
 use Rattle.plain.proofs.steps.perm_bits.Goals as goal
-
-long : (c : At-loop-i) → 32 ≡ length c.loop-i.moved
-long c = sym (ap length c.loop-i.invariant.1 ∙ length-nibbles_of 32 _)
 
 pub loop-i-init : goal.loop-i-init
 unfolding moved
 loop-i-init c = (omega arith, zeros)
 
 pub xor_bit-requires : goal.xor_bit-requires
-xor_bit-requires c = let i : ℕ = c.loop-i.i in
-    let there = (width_of c.args.s.now c.requires).P_lt i (omega arith) in record { nibbles = nibbles_32 _ c.loop-i.invariant.1; q_bound = rw c.p.ensures (omega (arith, there, long c.before.before.before.before.before, c.requires.most)); b_bound = rw c.state_bit.ensures (one_lt (bit (state_of c.args.s.now) i)) }
+xor_bit-requires c =
+    let long : 32 ≡ length c.loop-i.moved = sym (ap length c.loop-i.invariant.1 ∙ length-nibbles_of 32 _) in
+    let i : ℕ = c.loop-i.i in
+    let there = (width_of c.args.s.now c.requires).P_lt i (omega arith) in record { nibbles = nibbles_32 _ c.loop-i.invariant.1; q_bound = rw c.p.ensures (omega (arith, there, long, c.requires.most)); b_bound = rw c.state_bit.ensures (one_lt (bit (state_of c.args.s.now) i)) }
 
 pub loop-i-preserved : goal.loop-i-preserved
 loop-i-preserved c =
@@ -44,7 +41,7 @@ returns c =
     ∙ take-nibbles_of (length s) 32 _ c.requires.most
 
 pub slice_bounds-xor_bit-end : goal.slice_bounds-xor_bit-end
-slice_bounds-xor_bit-end c = long c.before.before
+slice_bounds-xor_bit-end c = sym (ap length c.loop-i.invariant.1 ∙ length-nibbles_of 32 _)
 
 pub p-requires : goal.p-requires
 p-requires c = (omega arith, omega (arith, c.requires.most))
@@ -53,7 +50,9 @@ pub state_bit-requires : goal.state_bit-requires
 state_bit-requires c = (c.requires, omega arith)
 
 pub slice_bounds-copy-end : goal.slice_bounds-copy-end
-slice_bounds-copy-end c = long c.before.before
+slice_bounds-copy-end c = sym (ap length c.loop-i.invariant.1 ∙ length-nibbles_of 32 _)
 
 pub copy-requires : goal.copy-requires
-copy-requires c = omega (arith, long c.before.before.before, c.requires.most)
+copy-requires c =
+    let long : 32 ≡ length c.loop-i.moved = sym (ap length c.loop-i.invariant.1 ∙ length-nibbles_of 32 _) in
+    omega (arith, long, c.requires.most)

@@ -2,7 +2,6 @@
 use mathlib.Core.Path.{sym, ap, ◌∙◌}
 use Prim.Native.Nat.{◌/◌}
 use native.Mathlib.Omega.{arith}
-use borrow.Author.Rules.{rules}
 use Rattle.bits.specs.Digit.{one}
 use Rattle.plain.proofs.Nibbles.{bit_state_of}
 use Rattle.plain.proofs.steps.state_bit.Goals as goal

@@ -4,7 +4,6 @@ use mathlib.Core.Bool.{Bool, true, false}
 use Prim.Native.Nat.{ℕ, ◌+◌, ◌*◌, ◌%◌}
 use native.Mathlib.Omega.{arith}
 use lib.Bits.{bit_xor}
-use borrow.Author.Rules.{rules}
 use Rattle.bits.specs.Digit.{one, bit, ◌⊕◌}
 use Rattle.bits.proofs.Bits.{one_lt}
 use Rattle.published.specs.Rounds.{step}

@@ -1,9 +1,9 @@
 -- `plain::steps::sub_cells`: the nibbles below i have gone through the table.
-use Prim.Native.Nat.{◌-◌, ◌≤◌, ◌<◌}
+use Prim.Native.Nat.{◌<◌}
 use native.Mathlib.Omega.{arith}
-use lib.ListN.{length, get_or}
+use lib.ListN.{get_or}
 use Rattle.published.specs.Rounds.{sub_cells}
-use Rattle.plain.proofs.Tables.{Through, through_none, through_next, through_all}
+use Rattle.plain.proofs.Tables.{through_none, through_next, through_all}
 use Rattle.plain.proofs.steps.sub_cells.Goals.{In-loop-i}
 use Rattle.plain.proofs.steps.sub_cells.Goals as goal
 

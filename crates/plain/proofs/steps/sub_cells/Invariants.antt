@@ -1,9 +1,7 @@
 -- `plain::steps::sub_cells`: the nibbles below i have gone through the table.
-use Prim.Native.Nat.{◌-◌, ◌≤◌, ◌<◌}
-use native.Mathlib.Omega.{arith}
+use Prim.Native.Nat.{◌-◌, ◌≤◌}
 use lib.ListN.{length, get_or}
-use Rattle.published.specs.Rounds.{sub_cells}
-use Rattle.plain.proofs.Tables.{Through, through_none, through_next, through_all}
+use Rattle.plain.proofs.Tables.{Through}
 use Rattle.plain.proofs.steps.sub_cells.Given as goal
 
 abbrev pub invariant-loop-i : goal.invariant-loop-i

@@ -1,10 +1,9 @@
 -- `plain::steps::un_perm_bits`: the bits below i have come back.
 use mathlib.Core.Path.{◌≡◌, sym, ap, ◌∙◌}
 use mathlib.Core.List.{List}
-use Prim.Native.Nat.{ℕ, ◌-◌, ◌*◌, ◌≤◌}
+use Prim.Native.Nat.{ℕ, ◌*◌}
 use native.Mathlib.Omega.{arith}
 use lib.ListN.{length, take}
-use borrow.Author.Rules.{rules}
 use Rattle.bits.specs.Digit.{number, one, bit, of_bits}
 use Rattle.bits.proofs.Bits.{one_lt}
 use Rattle.published.specs.Rounds.{P}
@@ -12,11 +11,7 @@ use Rattle.published.specs.Inner.{un_perm_bits}
 use Rattle.plain.specs.Inner.{state_of, nibbles_of}
 use Rattle.plain.proofs.Nibbles.{length-nibbles_of, take-nibbles_of, nibbles_32, width_of}
 use Rattle.plain.proofs.Moving.{zeros, unmoved_next}
-use Rattle.plain.proofs.steps.un_perm_bits.Goals.{At-loop-i}
 use Rattle.plain.proofs.steps.un_perm_bits.Goals as goal
-
-long : (c : At-loop-i) → 32 ≡ length c.loop-i.moved
-long c = sym (ap length c.loop-i.invariant.1 ∙ length-nibbles_of 32 _)
 
 pub loop-i-init : goal.loop-i-init
 unfolding of_bits number
@@ -27,7 +22,9 @@ state_bit-requires c =
     (c.requires, rw c.p.ensures ((width_of c.args.s.now c.requires).P_lt c.loop-i.i (omega arith)))
 
 pub xor_bit-requires : goal.xor_bit-requires
-xor_bit-requires c = record { nibbles = nibbles_32 _ c.loop-i.invariant.1; q_bound = omega (arith, long c.before.before.before.before.before, c.requires.most); b_bound = rw c.state_bit.ensures (one_lt (bit (state_of c.args.s.now) c.p.result)) }
+xor_bit-requires c =
+    let long : 32 ≡ length c.loop-i.moved = sym (ap length c.loop-i.invariant.1 ∙ length-nibbles_of 32 _) in
+    record { nibbles = nibbles_32 _ c.loop-i.invariant.1; q_bound = omega (arith, long, c.requires.most); b_bound = rw c.state_bit.ensures (one_lt (bit (state_of c.args.s.now) c.p.result)) }
 
 pub loop-i-preserved : goal.loop-i-preserved
 loop-i-preserved c =
@@ -47,13 +44,15 @@ returns c =
     ∙ take-nibbles_of (length s) 32 _ c.requires.most
 
 pub slice_bounds-xor_bit-end : goal.slice_bounds-xor_bit-end
-slice_bounds-xor_bit-end c = long c.before.before
+slice_bounds-xor_bit-end c = sym (ap length c.loop-i.invariant.1 ∙ length-nibbles_of 32 _)
 
 pub p-requires : goal.p-requires
 p-requires c = (omega arith, omega (arith, c.requires.most))
 
 pub slice_bounds-copy-end : goal.slice_bounds-copy-end
-slice_bounds-copy-end c = long c.before.before
+slice_bounds-copy-end c = sym (ap length c.loop-i.invariant.1 ∙ length-nibbles_of 32 _)
 
 pub copy-requires : goal.copy-requires
-copy-requires c = omega (arith, long c.before.before.before, c.requires.most)
+copy-requires c =
+    let long : 32 ≡ length c.loop-i.moved = sym (ap length c.loop-i.invariant.1 ∙ length-nibbles_of 32 _) in
+    omega (arith, long, c.requires.most)

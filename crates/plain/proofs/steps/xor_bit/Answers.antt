@@ -1,5 +1,4 @@
 -- `plain::steps::xor_bit`: the nibble in which the bit stands gets it.
-use borrow.Author.Rules.{rules}
 use Rattle.plain.proofs.Flips.{flipped}
 use Rattle.plain.proofs.steps.xor_bit.Goals as goal
 

@@ -1,0 +1,16 @@
+-- `eight::each_scattered`: a loop of four, in every lane `scatter`.
+use mathlib.Core.Path.{◌≡◌, ◌∙◌}
+use Prim.Native.Nat.{◌-◌, ◌≤◌}
+use native.Mathlib.Omega.{arith}
+use lib.ListN.{length, length-set}
+use borrow.Author.Rules.{rules}
+use Rattle.eight.specs.Inner.{state_at, rewritten}
+use Rattle.eight.proofs.Loop.{Gone, gone_none, each_more}
+use Rattle.eight.proofs.each_scattered.Given as goal
+
+abbrev pub invariant-loop-l : goal.invariant-loop-l
+invariant-loop-l s =
+    (s.l ≤ 4) × (length s.a ≡ 4) × (length s.b ≡ 4) × (length s.c ≡ 4) × (length s.d ≡ 4) × Gone (λ k. rewritten 0 1 (state_at s.initial.a s.initial.b s.initial.c s.initial.d k)) s.l s.initial.a s.initial.b s.initial.c s.initial.d s.a s.b s.c s.d
+
+abbrev pub decreases-loop-l : goal.decreases-loop-l
+decreases-loop-l s = 4 - s.l

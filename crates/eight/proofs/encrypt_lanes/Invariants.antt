@@ -1,0 +1,18 @@
+-- `eight::encrypt_lanes`: what is left of the quintuples, done to the lanes that are reached, is all of them done to the first.
+use mathlib.Core.Path.{◌≡◌, refl, ap, ◌∙◌}
+use mathlib.Core.Bool.{true}
+use mathlib.Core.List.{List}
+use Prim.Native.Nat.{ℕ, ◌+◌, ◌-◌, ◌*◌, ◌%◌, ◌^◌, ◌≤◌, ◌<◌}
+use native.Mathlib.Omega.{arith}
+use lib.ListN.{get_or, drop}
+use borrow.Author.Rules.{part_to_end}
+use Rattle.quintuple.specs.Inner.{part_in}
+use Rattle.eight.specs.declared.Three.{Three}
+use Rattle.eight.proofs.Rounds.{Left, left_none, left_more, left_all}
+use Rattle.eight.proofs.encrypt_lanes.Given as goal
+
+abbrev pub invariant-loop-i : goal.invariant-loop-i
+invariant-loop-i l = (l.i % 5 ≡ 0) × (l.i ≤ 40) × Left l.rkey l.i l.initial.x l.x × Left l.rkey l.i l.initial.y l.y × (l.third ≡ true → Left l.rkey l.i l.initial.z l.z)
+
+abbrev pub decreases-loop-i : goal.decreases-loop-i
+decreases-loop-i l = 40 - l.i

@@ -1,0 +1,6 @@
+-- `plain::decrypt` ends: no more rounds than these are left.
+use Prim.Native.Nat.{◌-◌}
+use Rattle.plain.proofs.+decrypt.Given as goal
+
+abbrev pub decreases-decrypt : goal.decreases-decrypt
+decreases-decrypt l = 40 - l.r

@@ -1,0 +1,16 @@
+-- `slices::fill_masks`: the masks of the words below r.
+use mathlib.Core.Path.{◌≡◌, ◌∙◌}
+use Prim.Native.Nat.{◌+◌, ◌-◌, ◌*◌, ◌/◌, ◌%◌, ◌≤◌}
+use native.Mathlib.Omega.{arith}
+use lib.ListN.{length}
+use borrow.Rule.Slice.PartMut.{same_len_mid}
+use Rattle.bits.proofs.Fills.{Fills, fills_none}
+use Rattle.published.proofs.Many.{one_part}
+use Rattle.slices.proofs.Keys.{MaskAt, fills_part, word-masks, all_masks}
+use Rattle.slices.proofs.fill_masks.Given as goal
+
+abbrev pub invariant-loop-r : goal.invariant-loop-r
+invariant-loop-r l = (l.r ≤ 80) × (length l.masks ≡ 2560) × Fills (λ i. i) (MaskAt l.rkey) (32 * l.r) l.masks
+
+abbrev pub decreases-loop-r : goal.decreases-loop-r
+decreases-loop-r l = 80 - l.r

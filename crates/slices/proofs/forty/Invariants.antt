@@ -1,0 +1,13 @@
+-- `slices::forty`: two rounds a turn.
+use mathlib.Core.Path.{◌≡◌, refl, ◌∙◌}
+use Prim.Native.Nat.{◌-◌, ◌%◌, ◌≤◌, ◌<◌}
+use native.Mathlib.Omega.{arith}
+use lib.ListN.{length}
+use Rattle.slices.proofs.Rounding.{Rest, rest_all, rest_less, rest_none, constant_at_lem, constant_next}
+use Rattle.slices.proofs.forty.Given as goal
+
+abbrev pub invariant-loop-r : goal.invariant-loop-r
+invariant-loop-r l = (l.r ≤ 40) × (l.r % 2 ≡ 0) × (length l.x ≡ 128) × (length l.y ≡ 128) × Rest l.masks l.initial.x l.r l.x
+
+abbrev pub decreases-loop-r : goal.decreases-loop-r
+decreases-loop-r l = 40 - l.r

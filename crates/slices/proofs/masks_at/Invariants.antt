@@ -1,0 +1,14 @@
+-- `slices::masks_at`: the masks below i.
+use mathlib.Core.Path.{◌≡◌, refl, ◌∙◌}
+use Prim.Native.Nat.{◌-◌, ◌≤◌, ◌<◌}
+use native.Mathlib.Omega.{arith}
+use lib.ListN.{length, get_or, length-set}
+use Rattle.bits.proofs.Fills.{Fills, fills_none, fills_up}
+use Rattle.slices.specs.Inner.{mask_by}
+use Rattle.slices.proofs.masks_at.Given as goal
+
+abbrev pub invariant-loop-i : goal.invariant-loop-i
+invariant-loop-i l = (l.i ≤ 32) × (length l.out ≡ 32) × Fills (λ k. k) (λ m w. w ≡ mask_by l.word (get_or l.places m 0)) l.i l.out
+
+abbrev pub decreases-loop-i : goal.decreases-loop-i
+decreases-loop-i l = 32 - l.i

@@ -1,0 +1,15 @@
+-- `slices::scatter`: the first 16 g bits are right.
+use mathlib.Core.Path.{◌≡◌}
+use Prim.Native.Nat.{◌+◌, ◌-◌, ◌*◌, ◌≤◌}
+use native.Mathlib.Omega.{arith}
+use lib.ListN.{length}
+use borrow.Author.Rules.{rules}
+use Rattle.slices.specs.Inner.{Scattered}
+use Rattle.slices.proofs.Nibbles.{none_scattered, scattered_is, all_scattered}
+use Rattle.slices.proofs.scatter.Given as goal
+
+abbrev pub invariant-loop-g : goal.invariant-loop-g
+invariant-loop-g l = (l.g ≤ 8) × (length l.y ≡ 128) × Scattered l.x l.key (16 * l.g) l.y
+
+abbrev pub decreases-loop-g : goal.decreases-loop-g
+decreases-loop-g l = 8 - l.g
