@@ -1,0 +1,19 @@
+-- `gift64::rounds::decrypt_state`: the rounds from i on are undone.
+use mathlib.Core.Path.{◌≡◌, refl, ap, ◌∙◌}
+use mathlib.Core.List.{List}
+use Prim.Native.Nat.{ℕ, ◌+◌, ◌-◌, ◌%◌, ◌≤◌}
+use native.Mathlib.Omega.{arith}
+use borrow.Author.Rules.{rules}
+use Rattle.published.specs.Rounds.{unrounds}
+use Rattle.published.specs.Gift64.{unrounds64}
+use Rattle.primitives.specs.Packed.{block_of64, Words}
+use Rattle.gift64.specs.Inner.{pairs_in}
+use Rattle.gift64.proofs.Turning.{undone-words}
+use Rattle.gift64.proofs.Rounding.{backward}
+use Rattle.gift64.proofs.rounds.decrypt_state.Given as goal
+
+abbrev pub invariant-loop-i : goal.invariant-loop-i
+invariant-loop-i l = (l.i % 2 ≡ 0) × (l.i ≤ 28) × Words l.state × (block_of64 l.state ≡ unrounds64 (pairs_in (28 - l.i) l.i l.words) l.i (block_of64 l.initial.state))
+
+abbrev pub decreases-loop-i : goal.decreases-loop-i
+decreases-loop-i l = l.i

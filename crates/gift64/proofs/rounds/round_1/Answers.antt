@@ -1,0 +1,14 @@
+-- `gift64::rounds::round_1`: the box, the moves, the key and the constant, one after the other.
+use mathlib.Core.Path.{ap, ◌∙◌}
+use borrow.Author.Rules.{rules}
+use Rattle.primitives.specs.declared.State.{State}
+use Rattle.quintuple.specs.Inner.{exchanged_of}
+use Rattle.gift64.specs.Inner.{moved_by, keyed_of, subround}
+use Rattle.gift64.proofs.rounds.round_1.Goals as goal
+
+pub returns : goal.returns
+unfolding subround
+returns c =
+    let a = c.args in
+    c.keyed.ensures
+    ∙ ap (λ (x : State). keyed_of x a.w a.c) (c.rows.ensures ∙ ap (moved_by 1) (c.exchanged.ensures ∙ ap exchanged_of c.sbox.ensures))

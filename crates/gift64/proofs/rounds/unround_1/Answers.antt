@@ -1,0 +1,14 @@
+-- `gift64::rounds::unround_1`: the key and the constant, the moves and the inverse box, one after the other.
+use mathlib.Core.Path.{ap, ◌∙◌}
+use borrow.Author.Rules.{rules}
+use Rattle.published.specs.Inner.{unentry}
+use Rattle.quintuple.specs.Boxes.{boxed}
+use Rattle.quintuple.specs.Inner.{exchanged_of}
+use Rattle.gift64.specs.Inner.{moved_by, unsubround}
+use Rattle.gift64.proofs.rounds.unround_1.Goals as goal
+
+pub returns : goal.returns
+unfolding unsubround
+returns c =
+    c.exchanged.ensures
+    ∙ ap exchanged_of (c.inv_sbox.ensures ∙ ap (boxed unentry) (c.rows.ensures ∙ ap (moved_by 1) c.keyed.ensures))
