@@ -13,7 +13,7 @@ returns c =
     let c16 = c11.before.before.before.before.before in
     let c20 = c16.before.before.before.before in
     c.before.before.put-all3.ensures _ _
-    (c7.put-decimal2.ensures _ _ (c11.put-all2.ensures _ _ (c16.put-decimal.ensures _ _ (c20.put_all_lem.ensures _ _ (nothing-laid _)))))
+    (c7.put-decimal2.ensures _ _ (c11.put-all2.ensures _ _ (c16.put-decimal.ensures _ _ (c20.put_all.ensures _ _ (nothing-laid _)))))
 
 pub head_spec : {M : Type 1} → statement M
 head_spec =

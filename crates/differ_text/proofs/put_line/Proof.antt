@@ -18,7 +18,7 @@ returns c =
     laid_as _ _ _ _
     (c.before.before.put.ensures _ _
     (c.before.before.before.before.before.before.put-side2.ensures _ _
-    (c10.put-all2.ensures _ _ (c10.before.before.before.before.before.put-side.ensures _ _ (c19.put_all_lem.ensures _ _ (c24.put-decimal.ensures _ _ (nothing-laid _))))))) _
+    (c10.put-all2.ensures _ _ (c10.before.before.before.before.before.put-side.ensures _ _ (c19.put_all.ensures _ _ (c24.put-decimal.ensures _ _ (nothing-laid _))))))) _
     (line_as a.rows.now a.first.now a.second.now (9 * a.k) n.result one.result two.result n.ensures one.ensures two.ensures)
 
 pub put-line-spec : {M : Type 1} → statement M

@@ -16,7 +16,7 @@ unfolding refusal_line
 returns_2 c l o lays =
     let c6 = c.before.before.before.before.before.before in
     let c12 = c6.before.before.before.before.before.before in
-    rw (ne_eqb _ 0 c12.if1.false) (laid_as _ o _ _ (c.before.before.put.ensures _ _ (c6.put-decimal.ensures _ _ (c6.before.before.before.before.put_all_lem.ensures l o lays))) _ (simp append_assoc))
+    rw (ne_eqb _ 0 c12.if1.false) (laid_as _ o _ _ (c.before.before.put.ensures _ _ (c6.put-decimal.ensures _ _ (c6.before.before.before.before.put_all.ensures l o lays))) _ (simp append_assoc))
 
 pub put-refusal-spec : {M : Type 1} → statement M
 put-refusal-spec = tie.close (tie.spec returns (λ c κs. tt) (λ c κs. tt) (λ c κs. tt) (λ c. search rules) returns_2)

@@ -26,7 +26,7 @@ unfolding side_text
 returns_2 c l o lays =
     let c5 = c.before.before.before.before.before in
     let a = c5.before.before.before.before.before.before.args in
-    laid_as _ o _ _ (c.before.before.put_all_lem.ensures l o lays) _ (ap (λ (x : Answer). l ++ side_text x) (sym (unknown-meant a.bundle.now a.told c5.if2.true)))
+    laid_as _ o _ _ (c.before.before.put_all.ensures l o lays) _ (ap (λ (x : Answer). l ++ side_text x) (sym (unknown-meant a.bundle.now a.told c5.if2.true)))
 
 returns-3 : tie.Need-returns-3
 unfolding side_text

@@ -21,7 +21,7 @@ returns c l o lays =
     let c6 = c.before.before.before.before.before.before in
     let s = c6.before.before.before in
     let long : length s.args.t.bytes ≡ 64 = search rules in
-    laid_as _ o _ _ (c.before.before.put_all_lem.ensures l o lays) _ (ap (λ (x : List ℕ). l ++ x) (take_most s.args.t.count 64 c6.at-most-64.result s.args.t.bytes long c6.at-most-64.ensures))
+    laid_as _ o _ _ (c.before.before.put_all.ensures l o lays) _ (ap (λ (x : List ℕ). l ++ x) (take_most s.args.t.count 64 c6.at-most-64.result s.args.t.bytes long c6.at-most-64.ensures))
 
 pub put-text-spec : {M : Type 1} → statement M
 put-text-spec =

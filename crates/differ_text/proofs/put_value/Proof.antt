@@ -15,7 +15,7 @@ returns c l o lays =
     let c10 = c7.before.before.before in
     let a = c10.before.before.before.args in
     let n = c.before.before.before.number in
-    laid_as _ o _ _ (c.before.before.put-decimal.ensures _ _ (c7.put_all_lem.ensures l o lays)) _
+    laid_as _ o _ _ (c.before.before.put-decimal.ensures _ _ (c7.put_all.ensures l o lays)) _
     (append_assoc l flag_word _ ∙ ap (λ (x : List ℕ). l ++ x) (flag_text a.kind n.result a.body.now n.ensures c10.if1.true))
 
 returns_2 : tie.Need-returns-2
