@@ -7,4 +7,4 @@ pub returns-then-out-at : goal.returns-then-out-at
 returns-then-out-at c l o lays = no_room l o _ _ lays _ c.if-out-at.true
 
 pub returns : goal.returns
-returns-then-out-at c l o lays = one_more l o _ _ lays _ c.if-out-at.false
+returns c l o lays = one_more l o _ _ lays _ c.if-out-at.false

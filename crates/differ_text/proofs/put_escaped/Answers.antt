@@ -13,6 +13,6 @@ returns-then-is_plain c l o lays =
     laid_as _ o _ _ (c.put.ensures l o lays) _ (ap (λ (x : List ℕ). l ++ x) (plain_byte a.b (sym c.is_plain.ensures ∙ c.if-is_plain.true)))
 
 pub returns : goal.returns
-returns-then-is_plain c l o lays =
+returns c l o lays =
     let a = c.args in
     laid_as _ o _ _ (c.put_text.ensures l o lays) _ (ap (λ (x : List ℕ). l ++ x) (shown_escape c.push_byte-digits.result a.b (c.push_byte-digits.ensures _ (c.push_all.ensures [] c.empty.ensures)) (sym c.is_plain.ensures ∙ c.if-is_plain.false)))

@@ -12,5 +12,5 @@ returns-then-code-eq0 c l o lays = rw (eq-eqb _ 0 c.if-code-eq0.true, append-nil
 
 pub returns : goal.returns
 unfolding refusal_line
-returns-then-code-eq0 c l o lays =
+returns c l o lays =
     rw (ne_eqb _ 0 c.if-code-eq0.false) (laid_as _ o _ _ (c.put.ensures _ _ (c.put_decimal-b.ensures _ _ (c.put_all-a.ensures l o lays))) _ (simp append_assoc))

@@ -32,6 +32,6 @@ returns-then-told-eq-ABSENT c l o lays =
 
 pub returns : goal.returns
 unfolding side_text
-returns-then-told-eq-VALUE c l o lays =
+returns c l o lays =
     let a = c.args in
     laid_as _ o _ _ (c.put_all-2.ensures l o lays) _ (ap (λ (x : Answer). l ++ side_text x) (sym (refused-meant a.bundle.now a.told c.if-told-eq-VALUE.false c.if-told-eq-UNKNOWN.false c.if-told-eq-ABSENT.false)))

@@ -23,7 +23,7 @@ returns-then-kind-eq1 c l o lays =
     (append_assoc l number_word _ ∙ ap (λ (x : List ℕ). l ++ x) (number_text a.kind n.result a.body.now n.ensures c.if-kind-eq1.true))
 
 pub returns : goal.returns
-returns-then-kind-eq0 c l o lays =
+returns c l o lays =
     let a = c.args in
     laid_as _ o _ _ (c.put.ensures _ _ (c.put_body-n.ensures _ _ (c.put_all-m-2.ensures l o lays))) _
     (ap (λ (x : List ℕ). x ++ (34 ∷ [])) (append_assoc l text_word (escaped a.body.now)) ∙ append_assoc l (text_word ++ escaped a.body.now) (34 ∷ []) ∙ ap (λ (x : List ℕ). l ++ x) (other_text a.kind a.body.now c.if-kind-eq0.false c.if-kind-eq1.false))
