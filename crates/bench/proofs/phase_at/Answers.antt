@@ -2,19 +2,14 @@
 use mathlib.Core.Path.{◌≡◌, sym, ap}
 use native.Mathlib.Omega.{arith}
 use lib.ListN.{length, get_or-eq_default}
-use borrow.Author.Rules.{rules}
 use Rattle.lane.specs.declared.Lane.{Lane}
 use Rattle.bench_orders.specs.Orders.{lane_count}
 use Rattle.bench_turns.proofs.Soundness.{unmapped}
-use Rattle.bench.proofs.phase_at.Statement.{statement}
-use Rattle.bench.proofs.phase_at.Tie as tie
+use Rattle.bench.proofs.phase_at.Goals as goal
 
-returns_2 : tie.Need-returns-2
+pub returns : goal.returns
 unfolding lane_count
-returns_2 c =
-    let b = c.before.args.t1 in
+returns c =
+    let b = c.args.b in
     let long : length b.lanes ≡ lane_count = search unmapped in
     sym (ap (λ (l : Lane). l.phase) (get_or-eq_default b.lanes _ (omega arith)))
-
-pub phase-at-spec : {M : Type 1} → statement M
-phase-at-spec = tie.close (tie.spec (λ c. search rules) (λ c. search rules) (λ c. search rules) returns_2)

@@ -2,21 +2,16 @@
 use mathlib.Core.Path.{◌≡◌, sym, ap}
 use native.Mathlib.Omega.{arith}
 use lib.ListN.{length, get_or-eq_default}
-use borrow.Author.Rules.{rules}
 use Rattle.lane.specs.declared.Lane.{Lane}
 use Rattle.lane.specs.Record.{admits}
 use Rattle.bench_orders.specs.Orders.{lane_count}
 use Rattle.bench_turns.proofs.Soundness.{unmapped}
-use Rattle.bench.proofs.admits_at.Statement.{statement}
-use Rattle.bench.proofs.admits_at.Tie as tie
+use Rattle.bench.proofs.admits_at.Goals as goal
 
-returns_2 : tie.Need-returns-2
+pub returns : goal.returns
 unfolding lane_count admits
-returns_2 c =
-    let a = c.before.args in
-    let b = a.t1 in
+returns c =
+    let a = c.args in
+    let b = a.b in
     let long : length b.lanes ≡ lane_count = search unmapped in
     sym (ap (λ (l : Lane). admits l a.caller) (get_or-eq_default b.lanes _ (omega arith)))
-
-pub admits-at-spec : {M : Type 1} → statement M
-admits-at-spec = tie.close (tie.spec (λ c. search rules) (λ c. search rules) (λ c κs. search rules) (λ c. search rules) returns_2)
