@@ -9,7 +9,6 @@ use Rattle.bits.proofs.Computed.{agree}
 use Rattle.published.specs.Rounds.{P, step, constant}
 use Rattle.primitives.specs.Words.{permuted}
 use Rattle.round_words.specs.Arranged.{N, nibble_at, arranged, constant_word}
-use Rattle.quintuple.specs.declared.FiveConstants.{FiveConstants}
 use Rattle.quintuple.specs.Inner.{constants_of}
 
 -- what the rule says of n rounds from round r on: for all 40 this computes to the table of the source, number for number

@@ -1,6 +1,5 @@
 -- `bundle_format::good_value`, kind by kind.
 use mathlib.Core.Path.{sym}
-use borrow.Author.Rules.{rules}
 use borrow.Author.Tests.{ne_eqb}
 use Rattle.bundle_format.specs.Format.{good_value}
 use Rattle.bundle_format.proofs.Editions.{no_value}

@@ -1,6 +1,5 @@
 -- `bundle_judge::count_of`: the header's second number, or none.
 use mathlib.Core.Path.{sym, ◌∙◌}
-use borrow.Author.Rules.{rules}
 use borrow.Author.Tests.{lt-leb}
 use Rattle.bundle_judge.proofs.Judging.{count_in_lem}
 use Rattle.bundle_judge.proofs.count_of.Goals as goal

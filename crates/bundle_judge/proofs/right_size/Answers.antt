@@ -1,5 +1,4 @@
 -- `bundle_judge::right_size`, test by test.
-use borrow.Author.Rules.{rules}
 use borrow.Author.Tests.{le-leb, lt-leb}
 use Rattle.bundle_format.specs.Reader.{right_size}
 use Rattle.bundle_judge.proofs.right_size.Goals as goal

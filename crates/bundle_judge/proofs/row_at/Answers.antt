@@ -1,7 +1,6 @@
 -- `bundle_judge::row_at`: the entry, if the bytes reach to its end.
 use mathlib.Core.Path.{sym, ◌∙◌}
 use native.Mathlib.Omega.{arith}
-use borrow.Author.Rules.{rules}
 use Rattle.bundle_judge.proofs.Judging.{row_in_lem, row_out}
 use Rattle.bundle_judge.proofs.row_at.Goals as goal
 

@@ -1,5 +1,4 @@
 -- `bundle_reader::answers_for`, test by test.
-use borrow.Author.Rules.{rules}
 use borrow.Author.Tests.{eq-eqb, ne_eqb}
 use Rattle.bundle_format.specs.Reader.{answers_for}
 use Rattle.bundle_reader.proofs.answers_for.Goals as goal

@@ -4,7 +4,6 @@ use mathlib.Core.List.{List}
 use Prim.Native.Nat.{ℕ}
 use native.Mathlib.Omega.{arith}
 use lib.ListN.{drop}
-use borrow.Author.Rules.{rules}
 use Rattle.answers.proofs.Outcome.{refuses, done}
 use Rattle.bundle_format.specs.Reader.{count_of, rows_from, tell_in}
 use Rattle.bundle_judge.proofs.Judging.{count_in_lem}

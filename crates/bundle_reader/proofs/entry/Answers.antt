@@ -1,5 +1,4 @@
 -- `bundle_reader::entry`: whether there is an answer, and then the entry.
-use borrow.Author.Rules.{rules}
 use Rattle.bits.proofs.Truth.{told-false, told-true}
 use Rattle.bundle_format.specs.Reader.{entry_of}
 use Rattle.bundle_reader.proofs.Steps.{answers_fit}

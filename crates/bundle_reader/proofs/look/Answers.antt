@@ -1,5 +1,4 @@
 -- `bundle_reader::look`: whether there is an answer, and then the id.
-use borrow.Author.Rules.{rules}
 use Rattle.bits.proofs.Truth.{told-false, told-true}
 use Rattle.bundle_format.specs.Reader.{looked_up}
 use Rattle.bundle_reader.proofs.Steps.{answers_fit}

@@ -1,7 +1,6 @@
 -- `bundle_reader::look_through`: its number first, and if that is 0 the count and the size.
 use mathlib.Core.Path.{sym, ◌∙◌}
 use native.Mathlib.Omega.{arith}
-use borrow.Author.Rules.{rules}
 use Rattle.bundle_judge.proofs.Judging.{count_in_lem}
 use Rattle.bundle_reader.proofs.Steps.{room, opened-refused, opened-done}
 use Rattle.bundle_reader.proofs.look_through.Goals as goal

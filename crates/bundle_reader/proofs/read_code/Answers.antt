@@ -1,5 +1,4 @@
 -- `bundle_reader::read_code`: 1, 20, 21, 22, 23, in this order.
-use borrow.Author.Rules.{rules}
 use borrow.Author.Tests.{eq-eqb, ne_eqb}
 use Rattle.bits.proofs.Truth.{told-false, told-true}
 use Rattle.bundle_format.proofs.Accepted.{size_only}

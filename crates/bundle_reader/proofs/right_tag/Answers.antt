@@ -1,6 +1,5 @@
 -- `bundle_reader::right_tag`, as the check of a tag tells it.
 use mathlib.Core.Path.{refl}
-use borrow.Author.Rules.{rules}
 use Rattle.bundle_reader.proofs.Steps.{tag-told}
 use Rattle.bundle_reader.proofs.right_tag.Goals as goal
 

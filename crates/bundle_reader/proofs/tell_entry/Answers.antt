@@ -5,7 +5,6 @@ use Prim.Native.Nat.{ℕ, ◌*◌}
 use native.Mathlib.Omega.{arith}
 use lib.ListN.{drop}
 use lib.Seq.{drop-drop}
-use borrow.Author.Rules.{rules}
 use Rattle.bundle_format.specs.Reader.{row_of, tell}
 use Rattle.bundle_judge.proofs.Judging.{row_in_lem}
 use Rattle.bundle_reader.proofs.Steps.{entry_none, entry_there}

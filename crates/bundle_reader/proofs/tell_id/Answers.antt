@@ -1,11 +1,11 @@
 -- `bundle_reader::tell_id`: none of the entries before place i has the id.
 use mathlib.Core.Path.{refl, sym, ◌∙◌}
 use mathlib.Core.List.{List}
-use Prim.Native.Nat.{ℕ, ◌-◌, ◌≤◌}
+use Prim.Native.Nat.{ℕ}
 use native.Mathlib.Omega.{arith}
 use lib.ListN.{drop}
 use Rattle.bundle_format.specs.Reader.{rows_from, tell, tell_in}
-use Rattle.bundle_judge.proofs.Cutting.{Left, left_start, left_end, left_stop, left_more}
+use Rattle.bundle_judge.proofs.Cutting.{left_start, left_end, left_stop, left_more}
 use Rattle.bundle_judge.proofs.Judging.{row_in_lem}
 use Rattle.bundle_reader.proofs.Steps.{tell_here, tell_more}
 use Rattle.bundle_reader.proofs.tell_id.Goals as goal

@@ -1,13 +1,8 @@
 -- `bundle_reader::tell_id`: none of the entries before place i has the id.
-use mathlib.Core.Path.{refl, sym, ◌∙◌}
-use mathlib.Core.List.{List}
-use Prim.Native.Nat.{ℕ, ◌-◌, ◌≤◌}
-use native.Mathlib.Omega.{arith}
+use Prim.Native.Nat.{◌-◌, ◌≤◌}
 use lib.ListN.{drop}
-use Rattle.bundle_format.specs.Reader.{rows_from, tell, tell_in}
-use Rattle.bundle_judge.proofs.Cutting.{Left, left_start, left_end, left_stop, left_more}
-use Rattle.bundle_judge.proofs.Judging.{row_in_lem}
-use Rattle.bundle_reader.proofs.Steps.{tell_here, tell_more}
+use Rattle.bundle_format.specs.Reader.{rows_from, tell_in}
+use Rattle.bundle_judge.proofs.Cutting.{Left}
 use Rattle.bundle_reader.proofs.tell_id.Given as goal
 
 abbrev pub invariant-loop-i : goal.invariant-loop-i

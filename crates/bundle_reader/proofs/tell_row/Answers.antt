@@ -1,5 +1,4 @@
 -- `bundle_reader::tell_row`: a kind that the reader knows, or not.
-use borrow.Author.Rules.{rules}
 use Rattle.bits.proofs.Truth.{told-false, told-true}
 use Rattle.bundle_format.specs.Reader.{tell}
 use Rattle.bundle_reader.proofs.tell_row.Goals as goal

@@ -1,7 +1,6 @@
 -- `bundle_text::edition`: the number of the first two bytes.
 use mathlib.Core.Path.{sym}
 use native.Mathlib.Omega.{arith}
-use borrow.Author.Rules.{rules}
 use borrow.Author.Tests.{lt-ltb, le-ltb}
 use Rattle.bundle_judge.proofs.Cutting.{number_two}
 use Rattle.bundle_text.specs.Seen.{stated}

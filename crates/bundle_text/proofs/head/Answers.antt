@@ -1,5 +1,4 @@
 -- `bundle_text::head`: words and two numbers.
-use borrow.Author.Rules.{rules}
 use Rattle.differ_text.proofs.Laid.{nothing-laid}
 use Rattle.bundle_text.specs.Seen.{head_line}
 use Rattle.bundle_text.proofs.head.Goals as goal

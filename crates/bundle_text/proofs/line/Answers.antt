@@ -1,7 +1,6 @@
 -- `bundle_text::line`: the id, the answer, must-know.
 use mathlib.Core.Path.{ap₂}
 use Prim.Native.Nat.{ℕ}
-use borrow.Author.Rules.{rules}
 use Rattle.bundle_format.specs.Reader.{meant}
 use Rattle.bundle_format.specs.declared.Told.{Told}
 use Rattle.differ_text.proofs.Laid.{laid_as, nothing-laid}

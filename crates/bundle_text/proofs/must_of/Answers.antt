@@ -1,6 +1,5 @@
 -- `bundle_text::must_of`: past the end it is 0.
 use mathlib.Core.Path.{sym}
-use borrow.Author.Rules.{rules}
 use lib.ListN.{get_or-eq_default}
 use Rattle.bundle_text.proofs.must_of.Goals as goal
 

@@ -1,6 +1,5 @@
 -- `bundle_text::put_must`: nothing of 0, and otherwise the words.
 use mathlib.Core.List.{append-nil}
-use borrow.Author.Rules.{rules}
 use borrow.Author.Tests.{eq-eqb, ne_eqb}
 use Rattle.bundle_text.specs.Seen.{must_text}
 use Rattle.bundle_text.proofs.put_must.Goals as goal

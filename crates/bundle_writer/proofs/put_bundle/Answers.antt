@@ -4,7 +4,6 @@ use mathlib.Core.List.{List}
 use Prim.Native.Nat.{ℕ, ◌+◌, ◌-◌, ◌*◌, ◌/◌}
 use native.Mathlib.Omega.{arith}
 use lib.ListN.{length, length-take, length-drop}
-use borrow.Author.Rules.{rules}
 use Rattle.bundle_format.proofs.Encoded.{length-untagged}
 use Rattle.bundle_format.specs.Writer.{list_of}
 use Rattle.bundle_writer.proofs.Numbered.{Rows, good-rows}

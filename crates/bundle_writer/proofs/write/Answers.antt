@@ -5,7 +5,6 @@ use mathlib.Core.List.{List, ◌++◌}
 use Prim.Native.Nat.{ℕ, ◌+◌, ◌*◌, ◌/◌}
 use native.Mathlib.Omega.{arith}
 use lib.ListN.{length, drop}
-use borrow.Author.Rules.{rules}
 use Rattle.answers.proofs.Outcome.{if_done_lem, if_refused}
 use Rattle.bundle_format.specs.Format.{total_of, encode}
 use Rattle.bundle_format.specs.Writer.{list_of, write_code}

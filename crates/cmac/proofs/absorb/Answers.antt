@@ -2,7 +2,6 @@
 use mathlib.Core.Path.{ap, ◌∙◌}
 use mathlib.Core.List.{List}
 use Prim.Native.Nat.{ℕ}
-use borrow.Author.Rules.{rules}
 use Rattle.gift128.specs.Calls.{encrypted_by}
 use Rattle.gift128.proofs.OrderZero.{encrypts}
 use Rattle.cmac.proofs.absorb.Goals as goal

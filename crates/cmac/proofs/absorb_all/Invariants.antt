@@ -1,12 +1,9 @@
 -- `cmac::absorb_all`: the blocks before place a are chained, and a is never past the last one's start.
-use mathlib.Core.Path.{◌≡◌, refl, sym, ap, ap₂, ◌∙◌}
-use mathlib.Core.List.{List}
-use Prim.Native.Nat.{ℕ, ◌+◌, ◌-◌, ◌*◌, ◌/◌, ◌≤◌}
-use native.Mathlib.Omega.{arith}
-use lib.ListN.{length, take, drop, length-take, length-drop}
+use mathlib.Core.Path.{◌≡◌}
+use Prim.Native.Nat.{◌-◌, ◌*◌, ◌/◌, ◌≤◌}
+use lib.ListN.{length}
 use Rattle.gift128.specs.Calls.{encrypted_by}
-use Rattle.cmac_parts.specs.Standard.{◌⊕◌, before, blocks, chained}
-use Rattle.cmac.proofs.Chaining.{before_is, chained_more}
+use Rattle.cmac_parts.specs.Standard.{before, blocks, chained}
 use Rattle.cmac.proofs.absorb_all.Given as goal
 
 abbrev pub invariant-loop-a : goal.invariant-loop-a

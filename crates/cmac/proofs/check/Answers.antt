@@ -1,6 +1,5 @@
 -- `cmac::check`: its number first, and if that is 0 the message's tag compared with the one given.
 use mathlib.Core.Path.{refl, sym, ap, ◌∙◌}
-use borrow.Author.Rules.{rules}
 use Rattle.answers.proofs.Outcome.{refuses, done}
 use Rattle.published.proofs.Calls.{key-passed}
 use Rattle.cmac.specs.Calls.{same}

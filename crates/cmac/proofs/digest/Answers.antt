@@ -4,7 +4,6 @@ use mathlib.Core.List.{List}
 use Prim.Native.Nat.{ℕ, ◌-◌, ◌≤◌}
 use native.Mathlib.Omega.{arith}
 use lib.ListN.{length, take, drop}
-use borrow.Author.Rules.{rules}
 use Rattle.cmac_parts.specs.Standard.{before, past}
 use Rattle.cmac.proofs.Pieces.{to_end, past_short, past_fits, fills_all}
 use Rattle.cmac.proofs.digest.Goals as goal

@@ -5,7 +5,6 @@ use Prim.Native.Nat.{ℕ, ◌+◌, ◌-◌, ◌≤◌, ◌<◌}
 use native.Mathlib.Omega.{arith}
 use lib.ListN.{length, take, drop, length-append, length-drop, take-append-drop}
 use lib.Seq.{length-take-le}
-use borrow.Author.Rules.{rules}
 use Rattle.cmac.specs.Calls.{kept}
 use Rattle.cmac.proofs.LastBlock.{kept_whole}
 use Rattle.cmac.proofs.Pieces.{to_end, fills_little, fills_more}

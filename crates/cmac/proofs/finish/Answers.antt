@@ -2,7 +2,6 @@
 use mathlib.Core.Path.{refl, ap, ◌∙◌}
 use mathlib.Core.List.{List}
 use Prim.Native.Nat.{ℕ}
-use borrow.Author.Rules.{rules}
 use Rattle.gift128.specs.Calls.{encrypted_by}
 use Rattle.cmac_parts.specs.Standard.{◌⊕◌, zero_block}
 use Rattle.cmac.proofs.finish.Goals as goal

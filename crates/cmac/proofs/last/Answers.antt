@@ -1,7 +1,6 @@
 -- `cmac::last`: the key xored with the bytes, padded if they are not a full block.
 use mathlib.Core.Path.{ap, ap₂, ◌∙◌}
 use lib.ListN.{length}
-use borrow.Author.Rules.{rules}
 use Rattle.gift128.specs.Calls.{encrypted_by}
 use Rattle.cmac_parts.specs.Standard.{◌⊕◌}
 use Rattle.cmac.proofs.LastBlock.{length-zero_block, last_is}

@@ -1,7 +1,6 @@
 -- `cmac::pad`: a full block stays; else hex 80 is put after the bytes, and zeros after it.
 use mathlib.Core.Path.{sym, ◌∙◌}
 use lib.ListN.{take}
-use borrow.Author.Rules.{rules}
 use borrow.Author.Tests.{eq-eqb, ne_eqb}
 use Rattle.bits.proofs.Computed.{cond-true, cond-false}
 use Rattle.cmac.proofs.LastBlock.{padded_is}

@@ -1,14 +1,7 @@
 -- `cmac::same_tags`: the bits in which the bytes before place i differ are gathered.
-use mathlib.Core.Path.{◌≡◌, refl, sym, ap, ◌∙◌}
-use mathlib.Core.List.{List}
-use Prim.Native.Nat.{ℕ, ◌+◌, ◌-◌, ◌≤◌}
-use native.Mathlib.Numerals.{add-one}
-use native.Mathlib.Omega.{arith}
-use lib.Bits.{bit_or, bit_xor}
-use lib.Dec.{eqb}
-use lib.ListN.{get_or}
+use mathlib.Core.Path.{◌≡◌}
+use Prim.Native.Nat.{◌-◌, ◌≤◌}
 use Rattle.cmac.specs.Inner.{difference}
-use Rattle.cmac.proofs.Strings.{told}
 use Rattle.cmac.proofs.same_tags.Given as goal
 
 abbrev pub invariant-loop-i : goal.invariant-loop-i

@@ -1,7 +1,6 @@
 -- `cmac::start`: the words of a cipher made from the key, or eighty zeros, and nothing fed.
 use mathlib.Core.Path.{ap, ◌∙◌}
 use lib.ListN.{length, replicate}
-use borrow.Author.Rules.{rules}
 use Rattle.key_schedule.specs.Expand.{expand_code, expanded}
 use Rattle.cmac_parts.specs.Standard.{zero_block}
 use Rattle.cmac.specs.Calls.{started_by}

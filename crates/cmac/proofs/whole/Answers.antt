@@ -1,6 +1,5 @@
 -- `cmac::whole`: its number first, and if that is 0 a start, one piece and the tag of the state.
 use mathlib.Core.Path.{sym, ◌∙◌}
-use borrow.Author.Rules.{rules}
 use Rattle.answers.proofs.Outcome.{refuses}
 use Rattle.published.proofs.Calls.{key-passed}
 use Rattle.cmac.proofs.Pieces.{in_one_piece}

@@ -1,6 +1,5 @@
 -- `cmac_parts::byte_at`: the byte, or past the end 0, which is what `get_or` gives there.
 use mathlib.Core.Path.{sym}
-use borrow.Author.Rules.{rules}
 use lib.ListN.{get_or-eq_default}
 use Rattle.cmac_parts.proofs.byte_at.Goals as goal
 

@@ -1,7 +1,6 @@
 -- `cmac_parts::double`: shifted, and hex 87 xored into the last byte if the first bit was 1.
 use mathlib.Core.Path.{sym, ◌∙◌}
 use native.Mathlib.Omega.{arith}
-use borrow.Author.Rules.{rules}
 use borrow.Author.Tests.{eq-eqb, ne_eqb}
 use Rattle.bits.proofs.Computed.{cond-true, cond-false}
 use Rattle.cmac_parts.proofs.Subkeys.{subkey_is}

@@ -1,12 +1,11 @@
 -- `cmac_parts::shift`: the bytes before place i are shifted; those from i on, the next among them, are not yet.
 use mathlib.Core.Path.{◌≡◌, refl, sym, ap, ap₂, ◌∙◌}
 use mathlib.Core.List.{List}
-use Prim.Native.Nat.{ℕ, ◌+◌, ◌-◌, ◌*◌, ◌/◌, ◌%◌, ◌≤◌, ◌<◌}
+use Prim.Native.Nat.{ℕ, ◌+◌, ◌*◌, ◌/◌, ◌%◌, ◌<◌}
 use native.Mathlib.Numerals.{add-one}
 use native.Mathlib.Omega.{arith}
-use lib.ListN.{length, get_or, length-set}
-use borrow.Author.Rules.{rules}
-use Rattle.bits.proofs.Filling.{written, written_more, written_here, written_rest, written_all}
+use lib.ListN.{get_or, length-set}
+use Rattle.bits.proofs.Filling.{written_more, written_here, written_rest, written_all}
 use Rattle.cmac_parts.specs.Inner.{shifted_bytes}
 use Rattle.cmac_parts.proofs.Subkeys.{length-shifted_bytes, get_or_shifted_bytes, shifted_is}
 use Rattle.cmac_parts.proofs.shift.Goals as goal

@@ -1,6 +1,5 @@
 -- `cmac_parts::tag_code` tries 10, as a piece does, and then 2.
 use mathlib.Core.Path.{sym, ◌∙◌}
-use borrow.Author.Rules.{rules}
 use Rattle.cmac_parts.proofs.Passing.{tag-refused, tag-later}
 use Rattle.cmac_parts.proofs.tag_code.Goals as goal
 

@@ -1,9 +1,8 @@
 -- `counter::copy`: the bytes before place i are copied.
-use mathlib.Core.Path.{◌≡◌, refl}
+use mathlib.Core.Path.{◌≡◌}
 use Prim.Native.Nat.{◌-◌, ◌≤◌}
-use native.Mathlib.Omega.{arith}
-use lib.ListN.{length, length-set}
-use Rattle.bits.proofs.Filling.{written, written_more, written_all}
+use lib.ListN.{length}
+use Rattle.bits.proofs.Filling.{written}
 use Rattle.counter.proofs.copy.Given as goal
 
 abbrev pub invariant-loop-i : goal.invariant-loop-i

@@ -1,6 +1,5 @@
 -- `counter::counter_block`: the caller's bytes, then the counter's.
 use mathlib.Core.Path.{◌∙◌}
-use borrow.Author.Rules.{rules}
 use Rattle.counter.proofs.Blocks.{laid}
 use Rattle.counter.proofs.counter_block.Goals as goal
 

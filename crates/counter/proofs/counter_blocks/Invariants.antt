@@ -1,13 +1,8 @@
 -- `counter::counter_blocks`: the counter blocks before place a are written.
-use mathlib.Core.Path.{◌≡◌, refl, sym, ap, ◌∙◌}
-use mathlib.Core.List.{List}
-use Prim.Native.Nat.{ℕ, ◌+◌, ◌-◌, ◌/◌, ◌%◌, ◌≤◌}
-use native.Mathlib.Omega.{arith}
-use lib.ListN.{length, take, drop, length-take, length-drop}
-use lib.Seq.{take_all}
-use borrow.Rule.Slice.PartMut.{same_len_mid}
+use mathlib.Core.Path.{◌≡◌}
+use Prim.Native.Nat.{◌-◌, ◌/◌, ◌%◌, ◌≤◌}
+use lib.ListN.{length, take}
 use Rattle.counter.specs.Standard.{key_blocks}
-use Rattle.counter.proofs.Blocks.{blocks_none, one_more}
 use Rattle.counter.proofs.counter_blocks.Given as goal
 
 abbrev pub invariant-loop-a : goal.invariant-loop-a

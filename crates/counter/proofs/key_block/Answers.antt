@@ -1,6 +1,5 @@
 -- `counter::key_block`: a counter block, encrypted.
 use mathlib.Core.Path.{ap, ◌∙◌}
-use borrow.Author.Rules.{rules}
 use Rattle.gift128.specs.Calls.{encrypted_by}
 use Rattle.gift128.proofs.OrderZero.{encrypts}
 use Rattle.counter.proofs.key_block.Goals as goal

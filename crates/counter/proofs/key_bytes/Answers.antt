@@ -1,5 +1,4 @@
 -- `counter::key_bytes`: some of the unused bytes, or all and more.
-use borrow.Author.Rules.{rules}
 use Rattle.counter.proofs.Leaving.{key-few, key-many}
 use Rattle.counter.proofs.key_bytes.Goals as goal
 

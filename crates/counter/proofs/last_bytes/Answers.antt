@@ -1,5 +1,4 @@
 -- `counter::last_bytes`: nothing for no bytes, or the start of a block that is made.
-use borrow.Author.Rules.{rules}
 use Rattle.counter.proofs.Leaving.{last_none, last_some}
 use Rattle.counter.proofs.last_bytes.Goals as goal
 

@@ -1,12 +1,12 @@
 -- `counter::mix`: the bytes before place i are xored.
 use mathlib.Core.Path.{◌≡◌, refl, sym, ap, ◌∙◌}
 use mathlib.Core.List.{List}
-use Prim.Native.Nat.{ℕ, ◌-◌, ◌≤◌}
+use Prim.Native.Nat.{ℕ}
 use native.Mathlib.Omega.{arith}
 use lib.Bits.{bit_xor}
 use lib.ListN.{length, get_or, length-set}
 use Rattle.counter.specs.Standard.{◌⊕◌}
-use Rattle.bits.proofs.Filling.{written, written_more, written_here, written_all}
+use Rattle.bits.proofs.Filling.{written_more, written_here, written_all}
 use Rattle.counter.proofs.Strings.{length-⊕, get_or_⊕}
 use Rattle.counter.proofs.mix.Goals as goal
 

@@ -1,13 +1,9 @@
 -- `counter::mix`: the bytes before place i are xored.
-use mathlib.Core.Path.{◌≡◌, refl, sym, ap, ◌∙◌}
-use mathlib.Core.List.{List}
-use Prim.Native.Nat.{ℕ, ◌-◌, ◌≤◌}
-use native.Mathlib.Omega.{arith}
-use lib.Bits.{bit_xor}
-use lib.ListN.{length, get_or, length-set}
+use mathlib.Core.Path.{◌≡◌}
+use Prim.Native.Nat.{◌-◌, ◌≤◌}
+use lib.ListN.{length}
 use Rattle.counter.specs.Standard.{◌⊕◌}
-use Rattle.bits.proofs.Filling.{written, written_more, written_here, written_all}
-use Rattle.counter.proofs.Strings.{length-⊕, get_or_⊕}
+use Rattle.bits.proofs.Filling.{written}
 use Rattle.counter.proofs.mix.Given as goal
 
 abbrev pub invariant-loop-i : goal.invariant-loop-i

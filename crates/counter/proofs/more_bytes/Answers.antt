@@ -1,5 +1,4 @@
 -- `counter::more_bytes`: the unused bytes, and new ones.
-use borrow.Author.Rules.{rules}
 use Rattle.counter.proofs.Leaving.{more_is}
 use Rattle.counter.proofs.more_bytes.Goals as goal
 

@@ -3,7 +3,6 @@ use mathlib.Core.Path.{ap, ◌∙◌}
 use mathlib.Core.Bool.{cond}
 use Prim.Native.Nat.{ℕ, ◌+◌, ◌-◌, ◌*◌, ◌%◌}
 use lib.Dec.{eqb}
-use borrow.Author.Rules.{rules}
 use Rattle.counter_orders.specs.Orders.{counters}
 use Rattle.counter.specs.Inner.{moved}
 use Rattle.counter.proofs.moves.Goals as goal

@@ -1,5 +1,4 @@
 -- `counter::new_bytes`: whole blocks, and the start of one more.
-use borrow.Author.Rules.{rules}
 use Rattle.counter.proofs.Leaving.{new_is}
 use Rattle.counter.proofs.new_bytes.Goals as goal
 

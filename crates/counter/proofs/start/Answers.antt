@@ -3,7 +3,6 @@ use mathlib.Core.Path.{◌≡◌, sym, ◌∙◌}
 use mathlib.Core.List.{List}
 use Prim.Native.Nat.{ℕ}
 use lib.ListN.{length}
-use borrow.Author.Rules.{rules}
 use Rattle.answers.proofs.Outcome.{refuses, done}
 use Rattle.gift128.proofs.Blocks.{filled}
 use Rattle.counter_orders.proofs.Passing.{start-passed}

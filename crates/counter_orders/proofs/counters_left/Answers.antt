@@ -1,5 +1,4 @@
 -- `counter_orders::counters_left`: none if spent.
-use borrow.Author.Rules.{rules}
 use borrow.Author.Tests.{ne_eqb}
 use Rattle.counter_orders.proofs.counters_left.Goals as goal
 

@@ -1,5 +1,4 @@
 -- `counter_orders::has_enough` compares the two.
-use borrow.Author.Rules.{rules}
 use Rattle.counter_orders.specs.Orders.{enough}
 use Rattle.counter_orders.proofs.has_enough.Goals as goal
 

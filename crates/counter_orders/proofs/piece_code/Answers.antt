@@ -1,5 +1,4 @@
 -- `counter_orders::piece_code` tries 10, 3, 12.
-use borrow.Author.Rules.{rules}
 use borrow.Author.Tests.{le-leb, lt-leb, eq-eqb, ne_eqb}
 use Rattle.bits.proofs.Truth.{told-false, told-true}
 use Rattle.counter_orders.specs.Orders.{piece_code}

@@ -1,7 +1,6 @@
 -- `differ::advance`: the ids before the next one of either bundle are absent in both.
 use mathlib.Core.Path.{◌∙◌}
 use native.Mathlib.Omega.{arith}
-use borrow.Author.Rules.{rules}
 use Rattle.differ.proofs.Tables.{look-told, within}
 use Rattle.differ.proofs.Stretches.{step-ends, step_on}
 use Rattle.differ.proofs.advance.Goals as goal

@@ -1,6 +1,5 @@
 -- `differ::compare`: both bundles looked through, the lines counted, and then laid.
 use native.Mathlib.Omega.{arith}
-use borrow.Author.Rules.{rules}
 use Rattle.differ.proofs.Outcomes.{code-told, looked, outcome_first, outcome_second, outcome_short, outcome_listed}
 use Rattle.differ.proofs.compare.Goals as goal
 

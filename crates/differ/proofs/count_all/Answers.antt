@@ -1,10 +1,8 @@
 -- `differ::count_all`: n lines have ids below `low`.
-use Prim.Native.Nat.{◌-◌, ◌≤◌}
 use native.Mathlib.Omega.{arith}
-use borrow.Author.Rules.{rules}
 use Rattle.differ.specs.Difference.{ids}
 use Rattle.differ.proofs.Stretches.{most_lines}
-use Rattle.differ.proofs.Rows.{one_line, no_line, Counts, counts_start, counts_end, counts_more, counts_fit}
+use Rattle.differ.proofs.Rows.{one_line, no_line, counts_start, counts_end, counts_more, counts_fit}
 use Rattle.differ.proofs.count_all.Goals as goal
 
 pub loop-low-init : goal.loop-low-init

@@ -1,6 +1,6 @@
 -- `differ::first_from`: every entry before place i has a lower id.
 use mathlib.Core.Path.{◌∙◌}
-use Prim.Native.Nat.{ℕ, ◌-◌, ◌<◌, ◌≤◌}
+use Prim.Native.Nat.{◌<◌}
 use native.Mathlib.Omega.{arith}
 use borrow.Author.Count.{below_none, below_more}
 use Rattle.bundle_format.specs.Reader.{rows_of, tell_at}

@@ -1,10 +1,6 @@
 -- `differ::first_from`: every entry before place i has a lower id.
-use mathlib.Core.Path.{◌∙◌}
 use Prim.Native.Nat.{ℕ, ◌-◌, ◌<◌, ◌≤◌}
-use native.Mathlib.Omega.{arith}
-use borrow.Author.Count.{below_none, below_more}
 use Rattle.bundle_format.specs.Reader.{rows_of, tell_at}
-use Rattle.differ.proofs.Tables.{entry-told, first_there, first_none}
 use Rattle.differ.proofs.first_from.Given as goal
 
 abbrev pub invariant-loop-i : goal.invariant-loop-i

@@ -1,6 +1,5 @@
 -- `differ::keep`: a row more, if the id differs.
 use native.Mathlib.Omega.{arith}
-use borrow.Author.Rules.{rules}
 use borrow.Author.Tests.{not-true, not-false}
 use Rattle.differ.proofs.Rows.{one_line, no_line, none_kept, one_kept}
 use Rattle.differ.proofs.keep.Goals as goal

@@ -1,7 +1,6 @@
 -- `differ::put_line`, number by number.
 use native.Mathlib.Omega.{arith}
 use lib.ListN.{length-set}
-use borrow.Author.Rules.{rules}
 use Rattle.differ.proofs.Rows.{nine-stored}
 use Rattle.differ.proofs.put_line.Goals as goal
 

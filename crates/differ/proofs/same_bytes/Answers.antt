@@ -1,9 +1,6 @@
 -- `differ::same_bytes`: before place i no byte differs.
-use mathlib.Core.Path.{◌≡◌, refl, sym, ◌∙◌}
-use Prim.Native.Nat.{◌-◌, ◌≤◌}
+use mathlib.Core.Path.{refl, sym, ◌∙◌}
 use native.Mathlib.Omega.{arith}
-use lib.ListN.{length, drop}
-use Rattle.cmac.specs.Calls.{same}
 use Rattle.differ.proofs.Compared_bytes.{other_length, other_byte, same_byte, no_byte_left}
 use Rattle.differ.proofs.same_bytes.Goals as goal
 

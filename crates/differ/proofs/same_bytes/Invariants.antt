@@ -1,10 +1,8 @@
 -- `differ::same_bytes`: before place i no byte differs.
-use mathlib.Core.Path.{◌≡◌, refl, sym, ◌∙◌}
+use mathlib.Core.Path.{◌≡◌}
 use Prim.Native.Nat.{◌-◌, ◌≤◌}
-use native.Mathlib.Omega.{arith}
 use lib.ListN.{length, drop}
 use Rattle.cmac.specs.Calls.{same}
-use Rattle.differ.proofs.Compared_bytes.{other_length, other_byte, same_byte, no_byte_left}
 use Rattle.differ.proofs.same_bytes.Given as goal
 
 abbrev pub invariant-loop-i : goal.invariant-loop-i

@@ -1,8 +1,7 @@
 -- `differ_text::number`: the number of the bytes before place i.
-use mathlib.Core.Path.{◌≡◌, refl, ap, ◌∙◌}
-use Prim.Native.Nat.{ℕ, ◌+◌, ◌-◌, ◌*◌, ◌≤◌}
+use mathlib.Core.Path.{refl, ap, ◌∙◌}
+use Prim.Native.Nat.{ℕ, ◌+◌, ◌*◌}
 use native.Mathlib.Omega.{arith}
-use lib.ListN.{take}
 use Rattle.published.specs.Bytes.{from_bytes}
 use Rattle.differ_text.proofs.Numbers.{next_byte, fits_more, first_eight}
 use Rattle.differ_text.proofs.number.Goals as goal

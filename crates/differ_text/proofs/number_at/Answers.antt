@@ -1,6 +1,5 @@
 -- `differ_text::number_at`: past the end it is 0.
 use mathlib.Core.Path.{sym}
-use borrow.Author.Rules.{rules}
 use lib.ListN.{get_or-eq_default}
 use Rattle.differ_text.proofs.number_at.Goals as goal
 

@@ -1,5 +1,4 @@
 -- `differ_text::piece`: a refusal, a row's line, or the last line.
-use borrow.Author.Rules.{rules}
 use borrow.Author.Tests.{eq-eqb, ne_eqb, lt-ltb, le-ltb}
 use Rattle.differ_text.specs.Pieces.{piece_of}
 use Rattle.differ_text.proofs.piece.Goals as goal

@@ -1,5 +1,4 @@
 -- `differ_text::put`: a byte more, if there is room.
-use borrow.Author.Rules.{rules}
 use Rattle.differ_text.proofs.Laid.{one_more, no_room}
 use Rattle.differ_text.proofs.put.Goals as goal
 

@@ -1,12 +1,11 @@
 -- `differ_text::put_all`: the bytes before place i are laid.
-use mathlib.Core.Path.{◌≡◌, refl, ap, ◌∙◌}
+use mathlib.Core.Path.{refl, ap, ◌∙◌}
 use mathlib.Core.List.{List, ◌++◌, append-nil}
-use Prim.Native.Nat.{ℕ, ◌+◌, ◌-◌, ◌≤◌}
+use Prim.Native.Nat.{ℕ, ◌+◌}
 use native.Mathlib.Omega.{arith}
-use lib.ListN.{length, take}
+use lib.ListN.{take}
 use lib.Seq.{take_all}
 use Rattle.text.proofs.Texts.{grows}
-use Rattle.differ_text.specs.Pieces.{Lays}
 use Rattle.differ_text.proofs.Laid.{laid_as}
 use Rattle.differ_text.proofs.put_all.Goals as goal
 

@@ -1,13 +1,9 @@
 -- `differ_text::put_all`: the bytes before place i are laid.
-use mathlib.Core.Path.{◌≡◌, refl, ap, ◌∙◌}
-use mathlib.Core.List.{List, ◌++◌, append-nil}
-use Prim.Native.Nat.{ℕ, ◌+◌, ◌-◌, ◌≤◌}
-use native.Mathlib.Omega.{arith}
+use mathlib.Core.Path.{◌≡◌}
+use mathlib.Core.List.{List, ◌++◌}
+use Prim.Native.Nat.{ℕ, ◌-◌, ◌≤◌}
 use lib.ListN.{length, take}
-use lib.Seq.{take_all}
-use Rattle.text.proofs.Texts.{grows}
 use Rattle.differ_text.specs.Pieces.{Lays}
-use Rattle.differ_text.proofs.Laid.{laid_as}
 use Rattle.differ_text.proofs.put_all.Given as goal
 
 abbrev pub invariant-loop-i : goal.invariant-loop-i

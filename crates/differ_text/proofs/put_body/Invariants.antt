@@ -1,15 +1,10 @@
 -- `differ_text::put_body`: the text of the bytes before place i is laid.
-use mathlib.Core.Path.{◌≡◌, refl, ap, ◌∙◌}
-use mathlib.Core.List.{List, ◌++◌, append-nil}
-use Prim.Native.Nat.{ℕ, ◌+◌, ◌-◌, ◌≤◌}
-use native.Mathlib.Omega.{arith}
-use lib.ListN.{length, take, get_or}
-use lib.Seq.{take_all}
-use Rattle.text.proofs.Texts.{grows}
+use mathlib.Core.Path.{◌≡◌}
+use mathlib.Core.List.{List, ◌++◌}
+use Prim.Native.Nat.{ℕ, ◌-◌, ◌≤◌}
+use lib.ListN.{length, take}
 use Rattle.differ_text.specs.Rendered.{escaped}
 use Rattle.differ_text.specs.Pieces.{Lays}
-use Rattle.differ_text.proofs.Laid.{laid_as}
-use Rattle.differ_text.proofs.Sides.{escaped-append, escaped_one}
 use Rattle.differ_text.proofs.put_body.Given as goal
 
 abbrev pub invariant-loop-i : goal.invariant-loop-i

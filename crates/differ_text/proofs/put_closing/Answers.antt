@@ -1,5 +1,4 @@
 -- `differ_text::put_closing`: words, the count, a newline.
-use borrow.Author.Rules.{rules}
 use Rattle.differ_text.specs.Rendered.{closing_line}
 use Rattle.differ_text.proofs.Laid.{nothing-laid}
 use Rattle.differ_text.proofs.put_closing.Goals as goal

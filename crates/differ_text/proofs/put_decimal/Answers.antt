@@ -3,7 +3,6 @@ use mathlib.Core.Path.{ap}
 use mathlib.Core.List.{List, [], ◌++◌}
 use Prim.Native.Nat.{ℕ}
 use native.Mathlib.Omega.{arith}
-use borrow.Author.Rules.{rules}
 use Rattle.differ_text.proofs.Laid.{laid_as}
 use Rattle.differ_text.proofs.Sides.{shown_decimal}
 use Rattle.differ_text.proofs.put_decimal.Goals as goal

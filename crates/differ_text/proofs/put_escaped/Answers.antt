@@ -2,7 +2,6 @@
 use mathlib.Core.Path.{sym, ap, ◌∙◌}
 use mathlib.Core.List.{List, [], ◌++◌}
 use Prim.Native.Nat.{ℕ}
-use borrow.Author.Rules.{rules}
 use Rattle.differ_text.proofs.Laid.{laid_as}
 use Rattle.differ_text.proofs.Sides.{plain_byte, shown_escape}
 use Rattle.differ_text.proofs.put_escaped.Goals as goal

@@ -1,6 +1,5 @@
 -- `differ_text::put_line`: the id, and both sides.
 use Prim.Native.Nat.{◌*◌}
-use borrow.Author.Rules.{rules}
 use Rattle.differ_text.proofs.Laid.{laid_as, nothing-laid}
 use Rattle.differ_text.proofs.Sides.{line_as}
 use Rattle.differ_text.proofs.put_line.Goals as goal

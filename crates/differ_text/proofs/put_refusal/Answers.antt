@@ -1,6 +1,5 @@
 -- `differ_text::put_refusal`: nothing of 0; otherwise words, the number, a newline.
 use mathlib.Core.List.{append_assoc, append-nil}
-use borrow.Author.Rules.{rules}
 use borrow.Author.Tests.{eq-eqb, ne_eqb}
 use Rattle.differ_text.specs.Rendered.{refusal_line}
 use Rattle.differ_text.proofs.Laid.{laid_as}

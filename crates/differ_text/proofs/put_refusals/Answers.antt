@@ -1,5 +1,4 @@
 -- `differ_text::put_refusals`: the first bundle's, then the second's.
-use borrow.Author.Rules.{rules}
 use Rattle.differ_text.specs.Rendered.{refusal_lines}
 use Rattle.differ_text.proofs.Laid.{nothing-laid}
 use Rattle.differ_text.proofs.put_refusals.Goals as goal

@@ -2,7 +2,6 @@
 use mathlib.Core.Path.{sym, ap, ◌∙◌}
 use mathlib.Core.List.{List, ◌++◌}
 use Prim.Native.Nat.{ℕ}
-use borrow.Author.Rules.{rules}
 use Rattle.bundle_format.specs.Reader.{Answer, value}
 use Rattle.differ_text.specs.Rendered.{side_text}
 use Rattle.differ_text.proofs.Laid.{laid_as}

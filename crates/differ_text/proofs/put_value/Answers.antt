@@ -2,7 +2,6 @@
 use mathlib.Core.Path.{ap, ◌∙◌}
 use mathlib.Core.List.{List, [], ◌∷◌, ◌++◌, append_assoc}
 use Prim.Native.Nat.{ℕ}
-use borrow.Author.Rules.{rules}
 use Rattle.differ_text.specs.Rendered.{flag_word, number_word, text_word, escaped}
 use Rattle.differ_text.proofs.Laid.{laid_as}
 use Rattle.differ_text.proofs.Sides.{flag_text, number_text, other_text}

@@ -1,5 +1,4 @@
 -- `differ_text::told_at`, number by number.
-use borrow.Author.Rules.{rules}
 use Rattle.differ_text.specs.Pieces.{told_at}
 use Rattle.differ_text.proofs.told_at.Goals as goal
 

@@ -1,7 +1,6 @@
 -- `eight::arrive`: what was read as order 1 has it is rewritten as the order has it; in order 1 that is itself.
 use mathlib.Core.Path.{◌≡◌, refl}
 use native.Mathlib.Omega.{arith}
-use borrow.Author.Rules.{rules}
 use borrow.Author.Tests.{leb-true}
 use Rattle.eight.proofs.arrive.Goals as goal
 

@@ -1,5 +1,4 @@
 -- `eight::cross`: two exchanges, side by side.
-use borrow.Author.Rules.{rules}
 use Rattle.eight.specs.Inner.{crossed}
 use Rattle.eight.proofs.cross.Goals as goal
 

@@ -1,14 +1,8 @@
 -- `eight::decrypt_lanes`: in every lane the quintuples from offset i on are undone.
-use mathlib.Core.Path.{◌≡◌, refl, ap, ◌∙◌}
+use mathlib.Core.Path.{◌≡◌}
 use mathlib.Core.Bool.{true}
-use mathlib.Core.List.{List}
-use Prim.Native.Nat.{ℕ, ◌-◌, ◌*◌, ◌%◌, ◌^◌, ◌≤◌, ◌<◌}
-use native.Mathlib.Omega.{arith}
-use lib.ListN.{get_or, drop}
-use borrow.Author.Rules.{part_to_end}
-use Rattle.quintuple.specs.Inner.{part_in}
-use Rattle.eight.specs.declared.Three.{Three}
-use Rattle.eight.proofs.Rounds.{Undone, undone_none, undone_more, undone_all}
+use Prim.Native.Nat.{◌%◌, ◌≤◌}
+use Rattle.eight.proofs.Rounds.{Undone}
 use Rattle.eight.proofs.decrypt_lanes.Given as goal
 
 abbrev pub invariant-loop-i : goal.invariant-loop-i

@@ -1,12 +1,10 @@
 -- `eight::each_round`: a loop of four, in every lane `by_part`.
-use mathlib.Core.Path.{◌≡◌, ◌∙◌}
-use Prim.Native.Nat.{◌-◌, ◌≤◌}
+use mathlib.Core.Path.{◌∙◌}
 use native.Mathlib.Omega.{arith}
-use lib.ListN.{length, length-set}
+use lib.ListN.{length-set}
 use borrow.Author.Rules.{rules}
 use Rattle.quintuple.specs.Inner.{five_of}
-use Rattle.eight.specs.Inner.{state_at}
-use Rattle.eight.proofs.Loop.{Gone, gone_none, each_more}
+use Rattle.eight.proofs.Loop.{gone_none, each_more}
 use Rattle.eight.proofs.each_round.Goals as goal
 
 pub loop-l-init : goal.loop-l-init

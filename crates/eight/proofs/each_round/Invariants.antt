@@ -1,12 +1,10 @@
 -- `eight::each_round`: a loop of four, in every lane `by_part`.
-use mathlib.Core.Path.{◌≡◌, ◌∙◌}
+use mathlib.Core.Path.{◌≡◌}
 use Prim.Native.Nat.{◌-◌, ◌≤◌}
-use native.Mathlib.Omega.{arith}
-use lib.ListN.{length, length-set}
-use borrow.Author.Rules.{rules}
+use lib.ListN.{length}
 use Rattle.quintuple.specs.Inner.{five_of}
 use Rattle.eight.specs.Inner.{state_at}
-use Rattle.eight.proofs.Loop.{Gone, gone_none, each_more}
+use Rattle.eight.proofs.Loop.{Gone}
 use Rattle.eight.proofs.each_round.Given as goal
 
 abbrev pub invariant-loop-l : goal.invariant-loop-l

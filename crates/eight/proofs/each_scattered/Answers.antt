@@ -1,11 +1,10 @@
 -- `eight::each_scattered`: a loop of four, in every lane `scatter`.
-use mathlib.Core.Path.{◌≡◌, ◌∙◌}
-use Prim.Native.Nat.{◌-◌, ◌≤◌}
+use mathlib.Core.Path.{◌∙◌}
 use native.Mathlib.Omega.{arith}
-use lib.ListN.{length, length-set}
+use lib.ListN.{length-set}
 use borrow.Author.Rules.{rules}
-use Rattle.eight.specs.Inner.{state_at, rewritten}
-use Rattle.eight.proofs.Loop.{Gone, gone_none, each_more}
+use Rattle.eight.specs.Inner.{rewritten}
+use Rattle.eight.proofs.Loop.{gone_none, each_more}
 use Rattle.eight.proofs.each_scattered.Goals as goal
 
 pub loop-l-init : goal.loop-l-init

@@ -1,11 +1,9 @@
 -- `eight::each_unround`: a loop of four, in every lane `inv_by_part`.
-use mathlib.Core.Path.{◌≡◌, ◌∙◌}
+use mathlib.Core.Path.{◌≡◌}
 use Prim.Native.Nat.{◌-◌, ◌≤◌}
-use native.Mathlib.Omega.{arith}
-use lib.ListN.{length, length-set}
-use borrow.Author.Rules.{rules}
+use lib.ListN.{length}
 use Rattle.eight.specs.Inner.{state_at, undone}
-use Rattle.eight.proofs.Loop.{Gone, gone_none, each_more}
+use Rattle.eight.proofs.Loop.{Gone}
 use Rattle.eight.proofs.each_unround.Given as goal
 
 abbrev pub invariant-loop-l : goal.invariant-loop-l

@@ -1,14 +1,8 @@
 -- `eight::encrypt_lanes`: what is left of the quintuples, done to the lanes that are reached, is all of them done to the first.
-use mathlib.Core.Path.{◌≡◌, refl, ap, ◌∙◌}
+use mathlib.Core.Path.{◌≡◌}
 use mathlib.Core.Bool.{true}
-use mathlib.Core.List.{List}
-use Prim.Native.Nat.{ℕ, ◌+◌, ◌-◌, ◌*◌, ◌%◌, ◌^◌, ◌≤◌, ◌<◌}
-use native.Mathlib.Omega.{arith}
-use lib.ListN.{get_or, drop}
-use borrow.Author.Rules.{part_to_end}
-use Rattle.quintuple.specs.Inner.{part_in}
-use Rattle.eight.specs.declared.Three.{Three}
-use Rattle.eight.proofs.Rounds.{Left, left_none, left_more, left_all}
+use Prim.Native.Nat.{◌-◌, ◌%◌, ◌≤◌}
+use Rattle.eight.proofs.Rounds.{Left}
 use Rattle.eight.proofs.encrypt_lanes.Given as goal
 
 abbrev pub invariant-loop-i : goal.invariant-loop-i

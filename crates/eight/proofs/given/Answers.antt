@@ -1,6 +1,5 @@
 -- `eight::given`: rewritten as the order has it, and put.
 use mathlib.Core.Path.{ap, ◌∙◌}
-use borrow.Author.Rules.{rules}
 use Rattle.published.specs.Seen.{write_in}
 use Rattle.published.proofs.Groups.{joined_cong}
 use Rattle.primitives.specs.declared.State.{State}

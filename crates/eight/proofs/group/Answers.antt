@@ -5,7 +5,6 @@ use Prim.Native.Nat.{ℕ, ◌-◌, ◌≤◌}
 use native.Mathlib.Nat.{le_of_lt}
 use native.Mathlib.Omega.{arith}
 use lib.ListN.{length, take, drop, length-take, length-drop}
-use borrow.Author.Rules.{rules}
 use borrow.Rule.Slice.PartMut.{put_mid, same_len_mid}
 use Rattle.published.specs.Bytes.{Bytes}
 use Rattle.published.specs.Gift128.{rounds_all}

@@ -2,7 +2,7 @@
 use mathlib.Core.Path.{◌≡◌, refl, sym, ◌∙◌}
 use mathlib.Core.Bool.{Bool, true, false, cond}
 use mathlib.Core.List.{List}
-use Prim.Native.Nat.{ℕ, ◌+◌, ◌-◌, ◌/◌, ◌%◌, ◌≤◌, ◌<◌}
+use Prim.Native.Nat.{ℕ, ◌+◌, ◌-◌, ◌%◌, ◌≤◌, ◌<◌}
 use native.Mathlib.Omega.{arith}
 use lib.Dec.{leb}
 use lib.ListN.{length, take, drop}
@@ -10,9 +10,8 @@ use borrow.Author.Tests.{leb-true, leb-false}
 use borrow.Rule.Slice.PartMut.{same_len_mid}
 use Rattle.bits.proofs.Truth.{told-false, told-true}
 use Rattle.bits.proofs.Computed.{cond-true, cond-false}
-use Rattle.published.specs.Blocks.{each_of}
 use Rattle.published.specs.Gift128.{rounds_all}
-use Rattle.published.specs.Seen.{is_order, seen}
+use Rattle.published.specs.Seen.{seen}
 use Rattle.published.proofs.Many.{each_none, one_part}
 use Rattle.published.proofs.Groups.{all_written}
 use Rattle.round_words.specs.Arranged.{pairs_from}

@@ -1,23 +1,12 @@
 -- `eight::groups`: the blocks before place a are written, and none or four and more are left.
-use mathlib.Core.Path.{◌≡◌, refl, sym, ◌∙◌}
-use mathlib.Core.Bool.{Bool, true, false, cond}
-use mathlib.Core.List.{List}
-use Prim.Native.Nat.{ℕ, ◌+◌, ◌-◌, ◌/◌, ◌%◌, ◌≤◌, ◌<◌}
-use native.Mathlib.Omega.{arith}
-use lib.Dec.{leb}
-use lib.ListN.{length, take, drop}
-use borrow.Author.Tests.{leb-true, leb-false}
-use borrow.Rule.Slice.PartMut.{same_len_mid}
-use Rattle.bits.proofs.Truth.{told-false, told-true}
-use Rattle.bits.proofs.Computed.{cond-true, cond-false}
+use mathlib.Core.Path.{◌≡◌}
+use mathlib.Core.Bool.{true}
+use Prim.Native.Nat.{◌+◌, ◌-◌, ◌/◌, ◌%◌, ◌≤◌, ◌<◌}
+use lib.ListN.{length, take}
 use Rattle.published.specs.Blocks.{each_of}
 use Rattle.published.specs.Gift128.{rounds_all}
 use Rattle.published.specs.Seen.{is_order, seen}
-use Rattle.published.proofs.Many.{each_none, one_part}
-use Rattle.published.proofs.Groups.{all_written}
 use Rattle.round_words.specs.Arranged.{pairs_from}
-use Rattle.eight.proofs.Answers.{grouped}
-use Rattle.eight.proofs.Parts.{part_more}
 use Rattle.eight.proofs.groups.Given as goal
 
 abbrev pub invariant-loop-a : goal.invariant-loop-a

@@ -1,6 +1,5 @@
 -- `eight::in_groups` makes the tests of `in_groups`, one by one.
 use mathlib.Core.Path.{sym}
-use borrow.Author.Rules.{rules}
 use Rattle.bits.proofs.Truth.{told-false, told-true}
 use Rattle.eight.proofs.Answers.{no_order, other_words, no_blocks, too_few, the_output}
 use Rattle.eight.proofs.in_groups.Goals as goal

@@ -1,7 +1,6 @@
 -- `eight::leave`: what the order has is rewritten as order 1 has it, to be put; in order 1 that is itself.
 use mathlib.Core.Path.{◌≡◌, refl}
 use native.Mathlib.Omega.{arith}
-use borrow.Author.Rules.{rules}
 use borrow.Author.Tests.{leb-true}
 use Rattle.eight.proofs.leave.Goals as goal
 

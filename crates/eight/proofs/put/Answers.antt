@@ -1,9 +1,8 @@
 -- `eight::put`: the blocks of the lanes before n are written, one after the other.
 use mathlib.Core.Path.{◌≡◌, refl, sym, ap, ◌∙◌}
-use mathlib.Core.List.{List}
 use Prim.Native.Nat.{ℕ, ◌+◌, ◌-◌, ◌*◌, ◌≤◌}
 use native.Mathlib.Omega.{arith}
-use lib.ListN.{length, take}
+use lib.ListN.{length}
 use lib.Seq.{take_all}
 use borrow.Author.Rules.{rules}
 use borrow.Rule.Slice.PartMut.{same_len_mid}
@@ -13,7 +12,7 @@ use Rattle.published.proofs.Many.{one_part}
 use Rattle.published.proofs.Groups.{joined_none}
 use Rattle.primitives.specs.Packed.{block_of}
 use Rattle.packing.proofs.Inverse.{unpacked-block}
-use Rattle.eight.specs.Inner.{state_at, lane_at}
+use Rattle.eight.specs.Inner.{lane_at}
 use Rattle.eight.proofs.Bytes.{put_more}
 use Rattle.eight.proofs.put.Goals as goal
 

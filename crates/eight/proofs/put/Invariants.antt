@@ -1,20 +1,11 @@
 -- `eight::put`: the blocks of the lanes before n are written, one after the other.
-use mathlib.Core.Path.{◌≡◌, refl, sym, ap, ◌∙◌}
-use mathlib.Core.List.{List}
-use Prim.Native.Nat.{ℕ, ◌+◌, ◌-◌, ◌*◌, ◌≤◌}
-use native.Mathlib.Omega.{arith}
+use mathlib.Core.Path.{◌≡◌}
+use Prim.Native.Nat.{◌-◌, ◌*◌, ◌≤◌}
 use lib.ListN.{length, take}
-use lib.Seq.{take_all}
-use borrow.Author.Rules.{rules}
-use borrow.Rule.Slice.PartMut.{same_len_mid}
 use Rattle.published.specs.Blocks.{joined}
 use Rattle.published.specs.Seen.{write_in}
-use Rattle.published.proofs.Many.{one_part}
-use Rattle.published.proofs.Groups.{joined_none}
 use Rattle.primitives.specs.Packed.{block_of}
-use Rattle.packing.proofs.Inverse.{unpacked-block}
-use Rattle.eight.specs.Inner.{state_at, lane_at}
-use Rattle.eight.proofs.Bytes.{put_more}
+use Rattle.eight.specs.Inner.{state_at}
 use Rattle.eight.proofs.put.Given as goal
 
 abbrev pub invariant-loop-n : goal.invariant-loop-n

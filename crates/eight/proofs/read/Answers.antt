@@ -1,12 +1,12 @@
 -- `eight::read`: a loop of four, into every lane the words of its block.
 use mathlib.Core.Path.{◌≡◌, ap, ◌∙◌}
 use mathlib.Core.List.{List}
-use Prim.Native.Nat.{ℕ, ◌+◌, ◌-◌, ◌*◌, ◌≤◌}
+use Prim.Native.Nat.{ℕ, ◌+◌, ◌-◌, ◌*◌}
 use native.Mathlib.Omega.{arith}
-use lib.ListN.{length, take, drop, length-set}
+use lib.ListN.{take, drop, length-set}
 use borrow.Author.Rules.{rules}
 use Rattle.packing.specs.Packing.{packed}
-use Rattle.eight.proofs.Loop.{Gone, gone_none, gone_more}
+use Rattle.eight.proofs.Loop.{gone_none, gone_more}
 use Rattle.eight.proofs.read.Goals as goal
 
 pub loop-l-init : goal.loop-l-init

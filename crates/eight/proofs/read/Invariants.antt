@@ -1,12 +1,9 @@
 -- `eight::read`: a loop of four, into every lane the words of its block.
-use mathlib.Core.Path.{◌≡◌, ap, ◌∙◌}
-use mathlib.Core.List.{List}
-use Prim.Native.Nat.{ℕ, ◌+◌, ◌-◌, ◌*◌, ◌≤◌}
-use native.Mathlib.Omega.{arith}
-use lib.ListN.{length, take, drop, length-set}
-use borrow.Author.Rules.{rules}
+use mathlib.Core.Path.{◌≡◌}
+use Prim.Native.Nat.{◌-◌, ◌*◌, ◌≤◌}
+use lib.ListN.{length, take, drop}
 use Rattle.packing.specs.Packing.{packed}
-use Rattle.eight.proofs.Loop.{Gone, gone_none, gone_more}
+use Rattle.eight.proofs.Loop.{Gone}
 use Rattle.eight.proofs.read.Given as goal
 
 abbrev pub invariant-loop-l : goal.invariant-loop-l

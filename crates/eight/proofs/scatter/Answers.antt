@@ -1,7 +1,6 @@
 -- `eight::scatter`: its five exchanges take each bit from where order 0 has it to where order 1 has it.
 use mathlib.Core.Path.{sym, ap, ◌∙◌}
 use native.Mathlib.Omega.{arith}
-use borrow.Author.Rules.{rules}
 use Rattle.bits.specs.Digit.{bit, digit}
 use Rattle.published.proofs.Seen.{inward, read-words-number}
 use Rattle.primitives.specs.declared.State.{State}

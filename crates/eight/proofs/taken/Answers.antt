@@ -1,6 +1,5 @@
 -- `eight::taken`: read, and rewritten as the order has it.
 use mathlib.Core.Path.{ap, ◌∙◌}
-use borrow.Author.Rules.{rules}
 use Rattle.eight.specs.Inner.{arriving}
 use Rattle.eight.proofs.taken.Goals as goal
 

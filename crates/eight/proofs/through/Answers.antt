@@ -1,5 +1,4 @@
 -- `eight::through`: the rounds done, or undone.
-use borrow.Author.Rules.{rules}
 use Rattle.eight.proofs.through.Goals as goal
 
 pub returns-then-back : goal.returns-then-back

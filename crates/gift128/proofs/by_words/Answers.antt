@@ -1,6 +1,5 @@
 -- `gift128::by_words`: its number first, and if that is 0 the block.
 use mathlib.Core.Path.{sym, ap, ◌∙◌}
-use borrow.Author.Rules.{rules}
 use Rattle.answers.proofs.Outcome.{refuses, done}
 use Rattle.gift128.specs.Calls.{order_code}
 use Rattle.gift128.proofs.Answers.{order-passed, words-passed}

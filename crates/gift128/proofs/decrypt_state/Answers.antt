@@ -1,7 +1,6 @@
 -- `gift128::decrypt_state`: eight quintuples are the forty published rounds, undone.
 use mathlib.Core.Path.{◌∙◌}
 use native.Mathlib.Omega.{arith}
-use borrow.Author.Rules.{rules}
 use Rattle.bits.proofs.Computed.{cond-true}
 use Rattle.quintuple.proofs.Several.{reaches, forty-undone}
 use Rattle.gift128.proofs.decrypt_state.Goals as goal

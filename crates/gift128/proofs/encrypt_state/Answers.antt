@@ -1,7 +1,6 @@
 -- `gift128::encrypt_state`: eight quintuples are the forty published rounds.
 use mathlib.Core.Path.{◌∙◌}
 use native.Mathlib.Omega.{arith}
-use borrow.Author.Rules.{rules}
 use Rattle.bits.proofs.Computed.{cond-true}
 use Rattle.quintuple.proofs.Several.{reaches, forty-done}
 use Rattle.gift128.proofs.encrypt_state.Goals as goal

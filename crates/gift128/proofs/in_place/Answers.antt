@@ -1,7 +1,6 @@
 -- `gift128::in_place`: packed, taken through the rounds, unpacked.
 use mathlib.Core.List.{List}
 use Prim.Native.Nat.{ℕ}
-use borrow.Author.Rules.{rules}
 use Rattle.gift128.proofs.Blocks.{crossing}
 use Rattle.gift128.proofs.in_place.Goals as goal
 

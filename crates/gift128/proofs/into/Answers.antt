@@ -1,5 +1,4 @@
 -- `gift128::into`: packed, taken through the rounds, unpacked into the other buffer.
-use borrow.Author.Rules.{rules}
 use Rattle.gift128.proofs.Blocks.{crossing}
 use Rattle.gift128.proofs.into.Goals as goal
 

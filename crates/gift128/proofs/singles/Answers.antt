@@ -1,11 +1,10 @@
 -- `gift128::singles`: the blocks before place a are written.
 use mathlib.Core.Path.{◌≡◌, refl, sym, ◌∙◌}
 use mathlib.Core.List.{List}
-use Prim.Native.Nat.{ℕ, ◌+◌, ◌-◌, ◌/◌, ◌%◌, ◌≤◌}
+use Prim.Native.Nat.{ℕ, ◌+◌, ◌-◌, ◌≤◌}
 use native.Mathlib.Omega.{arith}
-use lib.ListN.{length, take}
+use lib.ListN.{length}
 use borrow.Rule.Slice.PartMut.{same_len_mid}
-use Rattle.published.specs.Blocks.{each_of}
 use Rattle.published.specs.Seen.{seen}
 use Rattle.published.proofs.Many.{each_none, one_part}
 use Rattle.published.proofs.Groups.{all_written}

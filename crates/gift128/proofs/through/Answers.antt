@@ -1,5 +1,4 @@
 -- `gift128::through`: the rounds done, or undone.
-use borrow.Author.Rules.{rules}
 use Rattle.gift128.proofs.through.Goals as goal
 
 pub returns-then-back : goal.returns-then-back

@@ -1,14 +1,9 @@
 -- `gift64::all`: the first n blocks are written.
-use mathlib.Core.Path.{◌≡◌, refl, sym, ap, ◌∙◌}
-use mathlib.Core.List.{List}
-use Prim.Native.Nat.{ℕ, suc, ◌+◌, ◌-◌, ◌*◌, ◌/◌, ◌≤◌}
-use native.Mathlib.Omega.{arith}
+use mathlib.Core.Path.{◌≡◌}
+use Prim.Native.Nat.{◌-◌, ◌*◌, ◌/◌, ◌≤◌}
 use lib.ListN.{length, take}
-use borrow.Rule.Slice.PartMut.{same_len_mid, put_mid}
 use Rattle.published.specs.Blocks.{each_of}
-use Rattle.published.proofs.Many.{each_none, one_part, one_more}
 use Rattle.gift64.specs.Inner.{crossed_by}
-use Rattle.gift64.proofs.Crossing.{all_written}
 use Rattle.gift64.proofs.all.Given as goal
 
 abbrev pub invariant-loop-n : goal.invariant-loop-n

@@ -1,5 +1,4 @@
 -- `gift64::into`: packed, taken through the rounds, unpacked into the other buffer.
-use borrow.Author.Rules.{rules}
 use Rattle.gift64.proofs.Crossing.{crossing}
 use Rattle.gift64.proofs.into.Goals as goal
 

@@ -2,7 +2,6 @@
 use mathlib.Core.Path.{◌≡◌, ap, ◌∙◌}
 use mathlib.Core.List.{◌++◌}
 use lib.ListN.{length}
-use borrow.Author.Rules.{rules}
 use Rattle.key_schedule.specs.declared.Four.{Four}
 use Rattle.key_schedule.specs.declared.Twenty.{Twenty}
 use Rattle.key_schedule.specs.InnerTens.{five_rounds, five_later, ten_later, ten_further}

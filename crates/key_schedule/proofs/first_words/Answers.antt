@@ -1,5 +1,4 @@
 -- `key_schedule::first_words` reads V and U of the first two rounds from the key's bytes.
-use borrow.Author.Rules.{rules}
 use Rattle.key_schedule.specs.InnerTens.{first_words}
 use Rattle.key_schedule.proofs.TenWords.{same_four}
 use Rattle.key_schedule.proofs.first_words.Goals as goal

@@ -1,5 +1,4 @@
 -- `key_schedule::high_low`: two halves side by side fit a number of 64 bits.
-use borrow.Author.Rules.{rules}
 use Rattle.key_schedule.specs.InnerHalves.{low_of, high_of}
 use Rattle.key_schedule.proofs.Halves.{joined-lt, low-lt, high_lt}
 use Rattle.key_schedule.proofs.high_low.Goals as goal

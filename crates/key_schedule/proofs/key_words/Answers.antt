@@ -1,6 +1,5 @@
 -- `key_schedule::key_words`: of sixteen bytes the four words, of any other number four zero words.
 use mathlib.Core.Path.{sym, ◌∙◌}
-use borrow.Author.Rules.{rules}
 use borrow.Author.Tests.{eq-eqb, ne_eqb}
 use Rattle.bits.proofs.Computed.{cond-true, cond-false}
 use Rattle.key_schedule.specs.InnerTens.{key_words}

@@ -1,6 +1,5 @@
 -- `key_schedule::precompute_rkeys`: its number first, and if that is 0 the eighty words of the key.
 use mathlib.Core.Path.{sym, ◌∙◌}
-use borrow.Author.Rules.{rules}
 use Rattle.answers.proofs.Outcome.{refuses, done}
 use Rattle.key_schedule.proofs.Passing.{expand_passed}
 use Rattle.key_schedule.proofs.precompute_rkeys.Goals as goal

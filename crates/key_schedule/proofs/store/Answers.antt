@@ -7,7 +7,7 @@ use lib.ListN.{length-set, drop_of_length-le}
 use lib.Seq.{sets-eq}
 use borrow.Author.Rules.{rules}
 use Rattle.key_schedule.specs.InnerTwenty.{words_in}
-use Rattle.key_schedule.proofs.Halves.{low-lt, high_lt}
+use Rattle.key_schedule.proofs.Halves.{low-lt}
 use Rattle.key_schedule.proofs.store.Goals.{Start}
 use Rattle.key_schedule.proofs.store.Goals as goal
 

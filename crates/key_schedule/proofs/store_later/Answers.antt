@@ -1,6 +1,5 @@
 -- `key_schedule::store_later` leaves the twenty words that stand forty further.
 use mathlib.Core.Path.{ap, ◌∙◌}
-use borrow.Author.Rules.{rules}
 use Rattle.key_schedule.specs.InnerTwenty.{words_in}
 use Rattle.key_schedule.proofs.store_later.Goals as goal
 

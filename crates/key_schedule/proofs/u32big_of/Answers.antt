@@ -5,7 +5,6 @@ use Prim.Native.Nat.{ℕ}
 use native.Mathlib.Omega.{arith}
 use lib.ListN.{length, get_or, drop_of_length-le}
 use lib.Seq.{drop-cons}
-use borrow.Author.Rules.{rules}
 use Rattle.published.specs.Bytes.{from_bytes}
 use Rattle.key_schedule.proofs.u32big_of.Goals as goal
 

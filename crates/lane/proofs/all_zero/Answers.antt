@@ -1,5 +1,4 @@
 -- `lane::all_zero` tells whether everything in a record is zero.
-use borrow.Author.Rules.{rules}
 use Rattle.lane.proofs.Zero.{zero_or}
 use Rattle.lane.proofs.all_zero.Goals as goal
 

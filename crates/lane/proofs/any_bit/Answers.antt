@@ -1,12 +1,8 @@
 -- `lane::any_bit` is 0 exactly if every word is.
 use mathlib.Core.Path.{◌≡◌, refl}
-use mathlib.Core.Bool.{◌&&◌}
-use Prim.Native.Nat.{◌-◌, ◌≤◌}
 use native.Mathlib.Omega.{arith}
-use lib.Dec.{eqb}
-use lib.ListN.{length, drop}
+use lib.ListN.{length}
 use borrow.Author.Rules.{rules}
-use Rattle.lane.specs.Record.{all_zero}
 use Rattle.lane.proofs.Zero.{zero_more, zero-end}
 use Rattle.lane.proofs.any_bit.Goals as goal
 

@@ -1,13 +1,10 @@
 -- `lane::any_bit` is 0 exactly if every word is.
-use mathlib.Core.Path.{◌≡◌, refl}
+use mathlib.Core.Path.{◌≡◌}
 use mathlib.Core.Bool.{◌&&◌}
 use Prim.Native.Nat.{◌-◌, ◌≤◌}
-use native.Mathlib.Omega.{arith}
 use lib.Dec.{eqb}
-use lib.ListN.{length, drop}
-use borrow.Author.Rules.{rules}
+use lib.ListN.{drop}
 use Rattle.lane.specs.Record.{all_zero}
-use Rattle.lane.proofs.Zero.{zero_more, zero-end}
 use Rattle.lane.proofs.any_bit.Given as goal
 
 abbrev pub invariant-loop-i : goal.invariant-loop-i

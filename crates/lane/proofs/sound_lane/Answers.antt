@@ -1,6 +1,5 @@
 -- `lane::sound_lane` tells whether a record is sound.
 use mathlib.Core.Path.{sym, ◌∙◌}
-use borrow.Author.Rules.{rules}
 use borrow.Author.Tests.{lt-leb, ne_eqb}
 use Rattle.bits.proofs.Truth.{told-false, told-true}
 use Rattle.lane.specs.Record.{sound_count}

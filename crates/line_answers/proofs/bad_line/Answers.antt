@@ -1,6 +1,5 @@
 -- `line_answers::bad_line` pushes its words and the number.
 use mathlib.Core.List.{[]}
-use borrow.Author.Rules.{rules}
 use Rattle.line_answers.specs.Line.{bad_line}
 use Rattle.line_answers.proofs.bad_line.Goals as goal
 

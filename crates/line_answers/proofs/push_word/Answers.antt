@@ -3,7 +3,6 @@ use mathlib.Core.Path.{◌≡◌, sym, ap, ◌∙◌}
 use mathlib.Core.List.{[], ◌∷◌, ◌++◌}
 use Prim.Native.Nat.{ℕ, ◌%◌}
 use native.Mathlib.Nat.{div-one}
-use borrow.Author.Rules.{rules}
 use Rattle.bits.specs.Digit.{digit}
 use Rattle.published.specs.Bytes.{to_bytes}
 use Rattle.text.specs.Hex.{hex_of}

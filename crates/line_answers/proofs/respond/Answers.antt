@@ -2,7 +2,6 @@
 use mathlib.Core.Path.{refl, sym, ap, ◌∙◌}
 use mathlib.Core.List.{List, []}
 use Prim.Native.Nat.{ℕ}
-use borrow.Author.Rules.{rules}
 use Rattle.primitives.specs.declared.State.{State}
 use Rattle.primitives.specs.Packed.{state_of}
 use Rattle.packing.proofs.Inverse.{packed-block}

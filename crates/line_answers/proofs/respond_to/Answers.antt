@@ -4,7 +4,6 @@ use mathlib.Core.List.{List}
 use Prim.Native.Nat.{ℕ}
 use lib.Dec.{lit≤}
 use lib.ListN.{get_or}
-use borrow.Author.Rules.{rules}
 use Rattle.text.specs.Written.{written}
 use Rattle.line_answers.specs.Line.{response}
 use Rattle.line_answers.proofs.Good.{Good, good, reaches, length_part}

@@ -1,13 +1,8 @@
 -- `line_answers::sixteen_bytes` holds, at each turn, the bytes of the pairs passed.
-use mathlib.Core.Path.{◌≡◌, refl, sym, ap₂, ◌∙◌}
-use mathlib.Core.List.{List, [], ◌∷◌, ◌++◌}
-use Prim.Native.Nat.{ℕ, ◌≤◌, ◌-◌}
-use native.Mathlib.Numerals.{add-one}
-use native.Mathlib.Omega.{arith}
-use lib.ListN.{length, take, length-set}
-use lib.Seq.{take-suc, take-suc-set, take_all}
+use mathlib.Core.Path.{◌≡◌}
+use Prim.Native.Nat.{◌≤◌, ◌-◌}
+use lib.ListN.{length, take}
 use Rattle.text.specs.Hex.{bytes_of}
-use Rattle.line_answers.proofs.Numerals.{hex_at, byte_at, length_bytes_of}
 use Rattle.line_answers.proofs.sixteen_bytes.Given as goal
 
 abbrev pub invariant-loop-i : goal.invariant-loop-i

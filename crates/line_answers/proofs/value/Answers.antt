@@ -1,5 +1,4 @@
 -- `line_answers::value` finds the run of digits in which a byte lies.
-use borrow.Author.Rules.{rules}
 use borrow.Author.Tests.{lt-ltb, le-ltb, le-leb, lt-leb}
 use Rattle.line_answers.proofs.Numerals.{value_is}
 use Rattle.line_answers.proofs.value.Goals as goal

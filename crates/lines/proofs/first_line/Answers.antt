@@ -1,6 +1,5 @@
 -- `lines::first_line` pushes its one text.
 use mathlib.Core.List.{[]}
-use borrow.Author.Rules.{rules}
 use Rattle.lines.proofs.first_line.Goals as goal
 
 pub returns : goal.returns

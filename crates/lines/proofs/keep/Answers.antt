@@ -1,6 +1,5 @@
 -- `lines::keep` stores a byte where there is room.
 use native.Mathlib.Omega.{arith}
-use borrow.Author.Rules.{rules}
 use borrow.Author.Tests.{lt-ltb, le-ltb}
 use Rattle.lines.specs.Session.{kept}
 use Rattle.lines.proofs.keep.Goals as goal

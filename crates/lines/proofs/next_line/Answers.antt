@@ -1,5 +1,4 @@
 -- `lines::next_line` counts on, but for the largest number.
-use borrow.Author.Rules.{rules}
 use borrow.Author.Tests.{lt-ltb, le-ltb}
 use Rattle.lines.specs.Session.{next_line}
 use Rattle.lines.proofs.next_line.Goals as goal

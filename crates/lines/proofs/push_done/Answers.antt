@@ -1,7 +1,6 @@
 -- `lines::push_done` pushes its word, the number and a newline.
 use mathlib.Core.Path.{ap, ◌∙◌}
 use mathlib.Core.List.{append_assoc}
-use borrow.Author.Rules.{rules}
 use Rattle.lines.specs.Input.{done_line}
 use Rattle.text.specs.Written.{written}
 use Rattle.lines.proofs.push_done.Goals as goal

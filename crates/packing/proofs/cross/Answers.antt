@@ -2,7 +2,6 @@
 use mathlib.Core.Path.{ap, ◌∙◌}
 use mathlib.Core.List.{[], ◌∷◌}
 use Prim.Native.Nat.{ℕ}
-use borrow.Author.Rules.{rules}
 use Rattle.bits.proofs.Reflect.{value}
 use Rattle.packing.proofs.Steps.{far, far_lt, swap, step}
 use Rattle.packing.proofs.cross.Goals as goal

@@ -3,7 +3,6 @@ use mathlib.Core.Path.{sym, ◌∙◌}
 use mathlib.Core.List.{List}
 use Prim.Native.Nat.{ℕ}
 use lib.Dec.{lit<}
-use borrow.Author.Rules.{rules}
 use Rattle.published.specs.Bytes.{Bytes}
 use Rattle.published.proofs.Seen.{word_read}
 use Rattle.primitives.specs.Packed.{state_of}

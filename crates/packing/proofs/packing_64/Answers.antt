@@ -4,7 +4,6 @@ use mathlib.Core.List.{List}
 use Prim.Native.Nat.{ℕ}
 use lib.Dec.{T, ltb, lit<}
 use lib.ListN.{length}
-use borrow.Author.Rules.{rules}
 use Rattle.bits.specs.Digit.{digit}
 use Rattle.published.specs.Bytes.{from_bytes}
 use Rattle.published.specs.Packing.{word}

@@ -1,7 +1,6 @@
 -- `packing::piece` is a digit to base 65536.
 use mathlib.Core.Path.{sym, ap}
 use Prim.Native.Nat.{ℕ, ◌/◌, ◌%◌}
-use borrow.Author.Rules.{rules}
 use Rattle.bits.specs.Digit.{digit}
 use Rattle.bits.proofs.Digits.{pow-mul}
 use Rattle.packing.proofs.piece.Goals as goal

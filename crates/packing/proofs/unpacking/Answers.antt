@@ -2,7 +2,6 @@
 use mathlib.Core.Path.{refl, sym, ap, ◌∙◌}
 use Prim.Native.Nat.{ℕ}
 use native.Mathlib.Omega.{arith}
-use borrow.Author.Rules.{rules}
 use borrow.Author.Tests.{lt-leb}
 use Rattle.packing.specs.Packing.{unpacked}
 use Rattle.packing.proofs.Inverse.{unpacked-block, unpacked_other, unpacked_in_none}

@@ -3,7 +3,6 @@ use mathlib.Core.Path.{◌≡◌, sym, ap, ◌∙◌}
 use mathlib.Core.List.{List}
 use Prim.Native.Nat.{ℕ}
 use lib.ListN.{length}
-use borrow.Author.Rules.{rules}
 use Rattle.published.specs.Bytes.{to_bytes}
 use Rattle.primitives.specs.declared.State.{State}
 use Rattle.primitives.specs.Packed.{block_of64}

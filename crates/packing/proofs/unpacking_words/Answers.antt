@@ -1,6 +1,5 @@
 -- `packing::unpacking_words` writes sixteen bytes as order 1 has them, and nothing else.
 use mathlib.Core.Path.{refl, sym, ◌∙◌}
-use borrow.Author.Rules.{rules}
 use Rattle.packing.proofs.Inverse.{unpacked-block, unpacked_other}
 use Rattle.packing.proofs.unpacking_words.Goals as goal
 

@@ -1,5 +1,4 @@
 -- `plain_key::rotated_right`: the two parts of a word change places.
-use borrow.Author.Rules.{rules}
 use Rattle.plain_key.proofs.Keys.{rotation}
 use Rattle.plain_key.proofs.rotated_right.Goals as goal
 

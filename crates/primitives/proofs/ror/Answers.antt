@@ -3,7 +3,6 @@ use mathlib.Core.Path.{sym, ap, ◌∙◌}
 use Prim.Native.Nat.{ℕ, ◌-◌, ◌%◌}
 use native.Mathlib.Nat.{mod-lt}
 use lib.Dec.{lit<}
-use borrow.Author.Rules.{rules}
 use Rattle.bits.proofs.Computed.{at, agree}
 use Rattle.bits.proofs.Reflect.{W, var, or, shr, shl}
 use Rattle.primitives.specs.Words.{permuted, ror_in}

@@ -1,6 +1,5 @@
 -- `primitives::swapmove` exchanges the bits that the mask names.
 use Prim.Native.Nat.{◌%◌}
-use borrow.Author.Rules.{rules}
 use Rattle.primitives.proofs.Swaps.{swap-low, swap-high}
 use Rattle.primitives.proofs.swapmove.Goals as goal
 

@@ -1,6 +1,5 @@
 -- `primitives::swapmovesingle` exchanges the bits that the mask names within one word.
 use Prim.Native.Nat.{◌%◌}
-use borrow.Author.Rules.{rules}
 use Rattle.primitives.proofs.Swaps.{swap_single}
 use Rattle.primitives.proofs.swapmovesingle.Goals as goal
 

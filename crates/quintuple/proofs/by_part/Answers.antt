@@ -1,5 +1,4 @@
 -- `quintuple::by_part`: its five rounds, one after the other.
-use borrow.Author.Rules.{rules}
 use Rattle.quintuple.proofs.Chain.{made}
 use Rattle.quintuple.proofs.by_part.Goals as goal
 

@@ -1,7 +1,6 @@
 -- `quintuple::inv_by_part`: its five rounds undone, one after the other.
 use mathlib.Core.Path.{sym, ap, ◌∙◌}
 use native.Mathlib.Omega.{arith}
-use borrow.Author.Rules.{rules}
 use Rattle.primitives.proofs.Blocks.{state_of_block_of}
 use Rattle.quintuple.specs.Inner.{unfive_of}
 use Rattle.quintuple.proofs.Chain.{unmade}

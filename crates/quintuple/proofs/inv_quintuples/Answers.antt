@@ -1,9 +1,8 @@
 -- `quintuple::inv_quintuples`: those from offset i on are undone.
-use mathlib.Core.Path.{◌≡◌, refl, sym, ap, ◌∙◌}
+use mathlib.Core.Path.{◌≡◌, sym, ap, ◌∙◌}
 use mathlib.Core.List.{List}
-use Prim.Native.Nat.{ℕ, ◌+◌, ◌-◌, ◌*◌, ◌%◌, ◌≤◌}
+use Prim.Native.Nat.{ℕ, ◌+◌, ◌-◌, ◌*◌}
 use native.Mathlib.Omega.{arith}
-use lib.ListN.{length, drop}
 use borrow.Author.Rules.{part_to_end}
 use Rattle.bits.proofs.Truth.{told-false, told-true}
 use Rattle.bits.proofs.Computed.{cond-true, cond-false}

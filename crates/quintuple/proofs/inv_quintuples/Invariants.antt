@@ -1,14 +1,8 @@
 -- `quintuple::inv_quintuples`: those from offset i on are undone.
-use mathlib.Core.Path.{◌≡◌, refl, sym, ap, ◌∙◌}
-use mathlib.Core.List.{List}
+use mathlib.Core.Path.{◌≡◌}
 use Prim.Native.Nat.{ℕ, ◌+◌, ◌-◌, ◌*◌, ◌%◌, ◌≤◌}
-use native.Mathlib.Omega.{arith}
-use lib.ListN.{length, drop}
-use borrow.Author.Rules.{part_to_end}
-use Rattle.bits.proofs.Truth.{told-false, told-true}
-use Rattle.bits.proofs.Computed.{cond-true, cond-false}
-use Rattle.quintuple.specs.Quintuple.{unquintupled, unseveral}
-use Rattle.quintuple.proofs.Several.{reached, one_undone}
+use lib.ListN.{length}
+use Rattle.quintuple.specs.Quintuple.{unseveral}
 use Rattle.quintuple.proofs.inv_quintuples.Given as goal
 
 abbrev pub invariant-loop-i : goal.invariant-loop-i

@@ -1,6 +1,5 @@
 -- `quintuple::inv_round_2`: its rotations and swaps are the moves of the round, undone.
 use lib.Bits.{bit_xor}
-use borrow.Author.Rules.{rules}
 use Rattle.bits.specs.Digit.{bit, digit}
 use Rattle.published.specs.Rounds.{P}
 use Rattle.primitives.specs.declared.State.{State}

@@ -1,5 +1,4 @@
 -- `quintuple::inv_round_3`: its three rotations are the moves of the round, undone.
-use borrow.Author.Rules.{rules}
 use Rattle.published.specs.Rounds.{P}
 use Rattle.primitives.specs.Words.{ror_in}
 use Rattle.round_words.specs.Arranged.{N, nibble_at}

@@ -1,6 +1,5 @@
 -- `quintuple::part_at` reads a part where a quintuple starts.
 use mathlib.Core.Path.{sym, ◌∙◌}
-use borrow.Author.Rules.{rules}
 use Rattle.bits.proofs.Truth.{told-false, told-true}
 use Rattle.bits.proofs.Computed.{cond-true, cond-false}
 use Rattle.quintuple.specs.Inner.{part_in}

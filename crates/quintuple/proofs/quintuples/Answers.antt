@@ -1,9 +1,8 @@
 -- `quintuple::quintuples`: what is left of the quintuples, done to the state that is reached, is all of them done to the first.
-use mathlib.Core.Path.{◌≡◌, refl, sym, ap, ◌∙◌}
+use mathlib.Core.Path.{◌≡◌, sym, ap, ◌∙◌}
 use mathlib.Core.List.{List}
-use Prim.Native.Nat.{ℕ, suc, ◌+◌, ◌-◌, ◌*◌, ◌%◌, ◌≤◌}
+use Prim.Native.Nat.{ℕ, suc, ◌+◌, ◌*◌}
 use native.Mathlib.Omega.{arith}
-use lib.ListN.{length, drop}
 use borrow.Author.Rules.{part_to_end}
 use Rattle.bits.proofs.Truth.{told-false, told-true}
 use Rattle.bits.proofs.Computed.{cond-true, cond-false}

@@ -1,14 +1,8 @@
 -- `quintuple::quintuples`: what is left of the quintuples, done to the state that is reached, is all of them done to the first.
-use mathlib.Core.Path.{◌≡◌, refl, sym, ap, ◌∙◌}
-use mathlib.Core.List.{List}
-use Prim.Native.Nat.{ℕ, suc, ◌+◌, ◌-◌, ◌*◌, ◌%◌, ◌≤◌}
-use native.Mathlib.Omega.{arith}
-use lib.ListN.{length, drop}
-use borrow.Author.Rules.{part_to_end}
-use Rattle.bits.proofs.Truth.{told-false, told-true}
-use Rattle.bits.proofs.Computed.{cond-true, cond-false}
-use Rattle.quintuple.specs.Quintuple.{quintupled, several}
-use Rattle.quintuple.proofs.Several.{reached}
+use mathlib.Core.Path.{◌≡◌}
+use Prim.Native.Nat.{ℕ, ◌+◌, ◌-◌, ◌*◌, ◌%◌, ◌≤◌}
+use lib.ListN.{length}
+use Rattle.quintuple.specs.Quintuple.{several}
 use Rattle.quintuple.proofs.quintuples.Given as goal
 
 abbrev pub invariant-loop-i : goal.invariant-loop-i

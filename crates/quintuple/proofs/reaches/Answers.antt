@@ -1,6 +1,5 @@
 -- `quintuple::reaches` makes the tests of `reach`, one by one.
 use mathlib.Core.Path.{sym}
-use borrow.Author.Rules.{rules}
 use Rattle.quintuple.proofs.Several.{in_reach, other_count, too_late, too_many}
 use Rattle.quintuple.proofs.reaches.Goals as goal
 

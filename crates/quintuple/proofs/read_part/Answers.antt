@@ -3,7 +3,6 @@ use mathlib.Core.Path.{ap}
 use mathlib.Core.List.{List}
 use Prim.Native.Nat.{ℕ}
 use lib.ListN.{get_or}
-use borrow.Author.Rules.{rules}
 use Rattle.quintuple.specs.declared.FiveConstants.{FiveConstants}
 use Rattle.quintuple.specs.declared.Part.{Part}
 use Rattle.quintuple.proofs.read_part.Goals as goal

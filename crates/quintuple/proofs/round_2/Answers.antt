@@ -1,5 +1,4 @@
 -- `quintuple::round_2`: its rotations and swaps are the moves of the round.
-use borrow.Author.Rules.{rules}
 use Rattle.bits.specs.Digit.{bit, digit}
 use Rattle.published.specs.Rounds.{P}
 use Rattle.primitives.specs.declared.State.{State}

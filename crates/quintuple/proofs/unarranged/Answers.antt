@@ -1,7 +1,6 @@
 -- `quintuple::unarranged`: four swaps are four moves, and the four together put a word of arrangement 1 in place.
 use mathlib.Core.Path.{refl}
 use Prim.Native.Nat.{ℕ}
-use borrow.Author.Rules.{rules}
 use Rattle.bits.specs.Digit.{bit, digit}
 use Rattle.published.specs.Rounds.{P}
 use Rattle.primitives.proofs.Swaps.{exchange}

@@ -1,7 +1,6 @@
 -- `round_words::arrange`: four arrangements by name, and the two that leave a word as it is.
 use mathlib.Core.Path.{sym, ap, ◌∙◌}
 use Prim.Native.Nat.{ℕ}
-use borrow.Author.Rules.{rules}
 use Rattle.round_words.specs.Arranged.{arranged}
 use Rattle.round_words.proofs.Arrangements.{kept}
 use Rattle.round_words.proofs.arrange.Goals as goal

@@ -1,6 +1,5 @@
 -- `round_words::pairs`: its number first, and if that is 0 the pairs that the words stand for.
 use mathlib.Core.Path.{sym, ◌∙◌}
-use borrow.Author.Rules.{rules}
 use Rattle.answers.proofs.Outcome.{refuses, done}
 use Rattle.round_words.proofs.Rows.{row-passed, pairs-told}
 use Rattle.round_words.proofs.pairs.Goals as goal

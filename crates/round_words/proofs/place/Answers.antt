@@ -1,5 +1,4 @@
 -- `round_words::place`: the arrangement of place i, or the one that undoes it.
-use native.Mathlib.Omega.{arith}
 use Rattle.round_words.specs.Inner.{place_in}
 use Rattle.round_words.proofs.place.Goals as goal
 

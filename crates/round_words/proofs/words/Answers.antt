@@ -1,6 +1,5 @@
 -- `round_words::words`: its number first, and if that is 0 the words that stand for the pairs.
 use mathlib.Core.Path.{sym, ◌∙◌}
-use borrow.Author.Rules.{rules}
 use Rattle.answers.proofs.Outcome.{refuses, done}
 use Rattle.round_words.proofs.Rows.{row-passed, words-told}
 use Rattle.round_words.proofs.words.Goals as goal

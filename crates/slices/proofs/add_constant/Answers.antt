@@ -1,5 +1,4 @@
 -- `slices::add_constant`: its six bits, and the highest.
-use borrow.Author.Rules.{rules}
 use Rattle.slices.proofs.Flips.{constant_added}
 use Rattle.slices.proofs.add_constant.Goals as goal
 

@@ -1,12 +1,12 @@
 -- `slices::fill_masks`: the masks of the words below r.
 use mathlib.Core.Path.{◌≡◌, ◌∙◌}
-use Prim.Native.Nat.{◌+◌, ◌-◌, ◌*◌, ◌/◌, ◌%◌, ◌≤◌}
+use Prim.Native.Nat.{◌+◌, ◌-◌, ◌*◌, ◌/◌, ◌%◌}
 use native.Mathlib.Omega.{arith}
 use lib.ListN.{length}
 use borrow.Rule.Slice.PartMut.{same_len_mid}
-use Rattle.bits.proofs.Fills.{Fills, fills_none}
+use Rattle.bits.proofs.Fills.{fills_none}
 use Rattle.published.proofs.Many.{one_part}
-use Rattle.slices.proofs.Keys.{MaskAt, fills_part, word-masks, all_masks}
+use Rattle.slices.proofs.Keys.{fills_part, word-masks, all_masks}
 use Rattle.slices.proofs.fill_masks.Goals as goal
 
 pub loop-r-init : goal.loop-r-init

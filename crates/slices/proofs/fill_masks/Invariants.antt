@@ -1,12 +1,9 @@
 -- `slices::fill_masks`: the masks of the words below r.
-use mathlib.Core.Path.{◌≡◌, ◌∙◌}
-use Prim.Native.Nat.{◌+◌, ◌-◌, ◌*◌, ◌/◌, ◌%◌, ◌≤◌}
-use native.Mathlib.Omega.{arith}
+use mathlib.Core.Path.{◌≡◌}
+use Prim.Native.Nat.{◌-◌, ◌*◌, ◌≤◌}
 use lib.ListN.{length}
-use borrow.Rule.Slice.PartMut.{same_len_mid}
-use Rattle.bits.proofs.Fills.{Fills, fills_none}
-use Rattle.published.proofs.Many.{one_part}
-use Rattle.slices.proofs.Keys.{MaskAt, fills_part, word-masks, all_masks}
+use Rattle.bits.proofs.Fills.{Fills}
+use Rattle.slices.proofs.Keys.{MaskAt}
 use Rattle.slices.proofs.fill_masks.Given as goal
 
 abbrev pub invariant-loop-r : goal.invariant-loop-r

@@ -1,9 +1,8 @@
 -- `slices::forty`: two rounds a turn.
-use mathlib.Core.Path.{◌≡◌, refl, ◌∙◌}
-use Prim.Native.Nat.{◌-◌, ◌%◌, ◌≤◌, ◌<◌}
+use mathlib.Core.Path.{refl, ◌∙◌}
+use Prim.Native.Nat.{◌<◌}
 use native.Mathlib.Omega.{arith}
-use lib.ListN.{length}
-use Rattle.slices.proofs.Rounding.{Rest, rest_all, rest_less, rest_none, constant_at_lem, constant_next}
+use Rattle.slices.proofs.Rounding.{rest_all, rest_less, rest_none, constant_at_lem, constant_next}
 use Rattle.slices.proofs.forty.Goals as goal
 
 pub loop-r-init : goal.loop-r-init

@@ -1,9 +1,8 @@
 -- `slices::forty`: two rounds a turn.
-use mathlib.Core.Path.{◌≡◌, refl, ◌∙◌}
-use Prim.Native.Nat.{◌-◌, ◌%◌, ◌≤◌, ◌<◌}
-use native.Mathlib.Omega.{arith}
+use mathlib.Core.Path.{◌≡◌}
+use Prim.Native.Nat.{◌-◌, ◌%◌, ◌≤◌}
 use lib.ListN.{length}
-use Rattle.slices.proofs.Rounding.{Rest, rest_all, rest_less, rest_none, constant_at_lem, constant_next}
+use Rattle.slices.proofs.Rounding.{Rest}
 use Rattle.slices.proofs.forty.Given as goal
 
 abbrev pub invariant-loop-r : goal.invariant-loop-r

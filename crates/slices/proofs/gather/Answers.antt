@@ -1,10 +1,7 @@
 -- `slices::gather`: the first 16 g bits are right.
 use mathlib.Core.Path.{◌≡◌}
-use Prim.Native.Nat.{◌+◌, ◌-◌, ◌*◌, ◌≤◌}
+use Prim.Native.Nat.{◌+◌, ◌*◌}
 use native.Mathlib.Omega.{arith}
-use lib.ListN.{length}
-use borrow.Author.Rules.{rules}
-use Rattle.slices.specs.Inner.{Gathered}
 use Rattle.slices.proofs.Nibbles.{none_gathered, gathered_is, all_gathered}
 use Rattle.slices.proofs.gather.Goals as goal
 

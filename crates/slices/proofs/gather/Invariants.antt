@@ -1,11 +1,8 @@
 -- `slices::gather`: the first 16 g bits are right.
 use mathlib.Core.Path.{◌≡◌}
-use Prim.Native.Nat.{◌+◌, ◌-◌, ◌*◌, ◌≤◌}
-use native.Mathlib.Omega.{arith}
+use Prim.Native.Nat.{◌-◌, ◌*◌, ◌≤◌}
 use lib.ListN.{length}
-use borrow.Author.Rules.{rules}
 use Rattle.slices.specs.Inner.{Gathered}
-use Rattle.slices.proofs.Nibbles.{none_gathered, gathered_is, all_gathered}
 use Rattle.slices.proofs.gather.Given as goal
 
 abbrev pub invariant-loop-g : goal.invariant-loop-g

@@ -1,7 +1,6 @@
 -- `slices::gather_nibble`: four bits more, of one nibble.
 use native.Mathlib.Omega.{arith}
 use lib.ListN.{length-set}
-use borrow.Author.Rules.{rules}
 use Rattle.slices.proofs.Nibbles.{nibble_gathered}
 use Rattle.slices.proofs.gather_nibble.Goals as goal
 

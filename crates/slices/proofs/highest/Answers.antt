@@ -2,7 +2,6 @@
 use mathlib.Core.Path.{refl}
 use mathlib.Core.Bool.{true, false}
 use lib.Dec.{eqb, lit<}
-use borrow.Author.Rules.{rules}
 use Rattle.slices.proofs.Flips.{bit-everywhere, flip_none, flip, highest_others}
 use Rattle.slices.proofs.highest.Goals as goal
 

@@ -1,6 +1,5 @@
 -- `slices::key_masks`: by the table of places.
 use mathlib.Core.Path.{refl}
-use borrow.Author.Rules.{rules}
 use Rattle.slices.proofs.Keys.{places_right}
 use Rattle.slices.proofs.key_masks.Goals as goal
 

@@ -1,10 +1,9 @@
 -- `slices::masks_at`: the masks below i.
-use mathlib.Core.Path.{◌≡◌, refl, ◌∙◌}
-use Prim.Native.Nat.{◌-◌, ◌≤◌, ◌<◌}
+use mathlib.Core.Path.{refl, ◌∙◌}
+use Prim.Native.Nat.{◌<◌}
 use native.Mathlib.Omega.{arith}
-use lib.ListN.{length, get_or, length-set}
-use Rattle.bits.proofs.Fills.{Fills, fills_none, fills_up}
-use Rattle.slices.specs.Inner.{mask_by}
+use lib.ListN.{length, length-set}
+use Rattle.bits.proofs.Fills.{fills_none, fills_up}
 use Rattle.slices.proofs.masks_at.Goals as goal
 
 pub loop-i-init : goal.loop-i-init

@@ -1,9 +1,8 @@
 -- `slices::masks_at`: the masks below i.
-use mathlib.Core.Path.{◌≡◌, refl, ◌∙◌}
-use Prim.Native.Nat.{◌-◌, ◌≤◌, ◌<◌}
-use native.Mathlib.Omega.{arith}
-use lib.ListN.{length, get_or, length-set}
-use Rattle.bits.proofs.Fills.{Fills, fills_none, fills_up}
+use mathlib.Core.Path.{◌≡◌}
+use Prim.Native.Nat.{◌-◌, ◌≤◌}
+use lib.ListN.{length, get_or}
+use Rattle.bits.proofs.Fills.{Fills}
 use Rattle.slices.specs.Inner.{mask_by}
 use Rattle.slices.proofs.masks_at.Given as goal
 

@@ -1,5 +1,4 @@
 -- `slices::round`: scattered, and the constant.
-use borrow.Author.Rules.{rules}
 use Rattle.slices.proofs.Flips.{round_made}
 use Rattle.slices.proofs.round.Goals as goal
 

@@ -1,11 +1,8 @@
 -- `slices::scatter`: the first 16 g bits are right.
 use mathlib.Core.Path.{◌≡◌}
-use Prim.Native.Nat.{◌+◌, ◌-◌, ◌*◌, ◌≤◌}
-use native.Mathlib.Omega.{arith}
+use Prim.Native.Nat.{◌-◌, ◌*◌, ◌≤◌}
 use lib.ListN.{length}
-use borrow.Author.Rules.{rules}
 use Rattle.slices.specs.Inner.{Scattered}
-use Rattle.slices.proofs.Nibbles.{none_scattered, scattered_is, all_scattered}
 use Rattle.slices.proofs.scatter.Given as goal
 
 abbrev pub invariant-loop-g : goal.invariant-loop-g

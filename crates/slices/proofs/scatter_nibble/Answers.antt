@@ -1,7 +1,6 @@
 -- `slices::scatter_nibble`: four bits more, of one nibble.
 use native.Mathlib.Omega.{arith}
 use lib.ListN.{length-set}
-use borrow.Author.Rules.{rules}
 use Rattle.slices.proofs.Nibbles.{nibble_scattered}
 use Rattle.slices.proofs.scatter_nibble.Goals as goal
 

@@ -1,6 +1,5 @@
 -- `slices::sixty_four`: loaded, taken through the rounds, saved.
 use mathlib.Core.Path.{refl, ◌∙◌}
-use borrow.Author.Rules.{rules}
 use Rattle.bits.proofs.Computed.{cond-true}
 use Rattle.slices.proofs.Groups.{group_made, fits_whole}
 use Rattle.slices.proofs.sixty_four.Goals as goal

@@ -1,5 +1,4 @@
 -- `slices::through`: done or undone.
-use borrow.Author.Rules.{rules}
 use Rattle.slices.proofs.through.Goals as goal
 
 pub returns-then-back : goal.returns-then-back

@@ -1,5 +1,4 @@
 -- `slices::two_rounds`: one, and the other.
-use borrow.Author.Rules.{rules}
 use Rattle.slices.proofs.Rounding.{parts, two_made}
 use Rattle.slices.proofs.two_rounds.Goals as goal
 

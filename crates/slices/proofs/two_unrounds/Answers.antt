@@ -1,5 +1,4 @@
 -- `slices::two_unrounds`: one, and the other.
-use borrow.Author.Rules.{rules}
 use Rattle.slices.proofs.Rounding.{parts, two_unmade}
 use Rattle.slices.proofs.two_unrounds.Goals as goal
 

@@ -1,9 +1,8 @@
 -- `slices::unforty`: two rounds a turn.
 use mathlib.Core.Path.{◌≡◌, refl, ◌∙◌}
-use Prim.Native.Nat.{suc, ◌-◌, ◌%◌, ◌≤◌, ◌<◌}
+use Prim.Native.Nat.{suc, ◌-◌, ◌<◌}
 use native.Mathlib.Omega.{arith}
-use lib.ListN.{length}
-use Rattle.slices.proofs.Rounding.{Undone, undone_none, undone_more, undone_all, constant_at_lem, constant_next}
+use Rattle.slices.proofs.Rounding.{undone_none, undone_more, undone_all, constant_at_lem, constant_next}
 use Rattle.slices.proofs.unforty.Goals as goal
 
 pub loop-r-init : goal.loop-r-init

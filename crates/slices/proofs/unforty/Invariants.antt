@@ -1,9 +1,8 @@
 -- `slices::unforty`: two rounds a turn.
-use mathlib.Core.Path.{◌≡◌, refl, ◌∙◌}
-use Prim.Native.Nat.{suc, ◌-◌, ◌%◌, ◌≤◌, ◌<◌}
-use native.Mathlib.Omega.{arith}
+use mathlib.Core.Path.{◌≡◌}
+use Prim.Native.Nat.{◌%◌, ◌≤◌}
 use lib.ListN.{length}
-use Rattle.slices.proofs.Rounding.{Undone, undone_none, undone_more, undone_all, constant_at_lem, constant_next}
+use Rattle.slices.proofs.Rounding.{Undone}
 use Rattle.slices.proofs.unforty.Given as goal
 
 abbrev pub invariant-loop-r : goal.invariant-loop-r

@@ -1,5 +1,4 @@
 -- `slices::unround`: the constant, and gathered.
-use borrow.Author.Rules.{rules}
 use Rattle.slices.proofs.Flips.{round-unmade}
 use Rattle.slices.proofs.unround.Goals as goal
 

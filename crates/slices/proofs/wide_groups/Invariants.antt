@@ -1,21 +1,12 @@
 -- `slices::wide_groups`: the blocks before place a are written.
-use mathlib.Core.Path.{◌≡◌, refl, sym, ap, ◌∙◌}
-use mathlib.Core.List.{List}
-use Prim.Native.Nat.{ℕ, ◌+◌, ◌-◌, ◌/◌, ◌%◌, ◌≤◌}
-use native.Mathlib.Omega.{arith}
-use lib.ListN.{length, take, drop}
-use borrow.Author.Rules.{rules}
-use borrow.Rule.Slice.PartMut.{same_len_mid}
+use mathlib.Core.Path.{◌≡◌}
+use Prim.Native.Nat.{◌-◌, ◌/◌, ◌%◌, ◌≤◌}
+use lib.ListN.{length, take}
 use Rattle.published.specs.Blocks.{each_of}
 use Rattle.published.specs.Gift128.{rounds_all}
 use Rattle.published.specs.Seen.{seen}
-use Rattle.published.proofs.Many.{each_none, one_part}
-use Rattle.published.proofs.Groups.{all_written}
-use Rattle.published.proofs.Parts.{group_more}
 use Rattle.round_words.specs.Arranged.{pairs_from}
 use Rattle.slices.specs.InnerMasks.{masks_of}
-use Rattle.slices.proofs.Keys.{masks-length}
-use Rattle.slices.proofs.Groups.{group_by_words}
 use Rattle.slices.proofs.wide_groups.Given as goal
 
 abbrev pub invariant-loop-a : goal.invariant-loop-a

@@ -1,6 +1,5 @@
 -- `text::hex_digit` picks the digit from its run.
 use mathlib.Core.Path.{◌∙◌, sym}
-use borrow.Author.Rules.{rules}
 use borrow.Author.Tests.{lt-ltb, le-ltb}
 use Rattle.bits.proofs.Computed.{cond-true, cond-false}
 use Rattle.text.proofs.Numerals.{digit_is}

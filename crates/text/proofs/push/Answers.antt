@@ -1,5 +1,4 @@
 -- `text::push` stores a byte behind those that are there.
-use borrow.Author.Rules.{rules}
 use Rattle.text.proofs.Texts.{pushed, full}
 use Rattle.text.proofs.push.Goals as goal
 

@@ -1,12 +1,9 @@
 -- `text::push_all` holds, at each turn, the bytes passed so far.
-use mathlib.Core.Path.{◌≡◌, refl, ap, ◌∙◌}
-use mathlib.Core.List.{List, ◌++◌, append-nil}
+use mathlib.Core.Path.{◌≡◌}
+use mathlib.Core.List.{List, ◌++◌}
 use Prim.Native.Nat.{ℕ, ◌≤◌, ◌-◌}
-use native.Mathlib.Omega.{arith}
 use lib.ListN.{length, take}
-use lib.Seq.{take_all}
 use Rattle.text.specs.Written.{written}
-use Rattle.text.proofs.Texts.{grows}
 use Rattle.text.proofs.push_all.Given as goal
 
 abbrev pub invariant-loop-i : goal.invariant-loop-i

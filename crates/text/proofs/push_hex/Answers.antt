@@ -1,9 +1,9 @@
 -- `text::push_hex` holds, at each turn, the digits of the bytes passed so far.
-use mathlib.Core.Path.{◌≡◌, ap, ◌∙◌}
+use mathlib.Core.Path.{ap, ◌∙◌}
 use mathlib.Core.List.{List, ◌++◌, append-nil}
-use Prim.Native.Nat.{ℕ, ◌≤◌, ◌-◌}
+use Prim.Native.Nat.{ℕ}
 use native.Mathlib.Omega.{arith}
-use lib.ListN.{length, take}
+use lib.ListN.{take}
 use lib.Seq.{take_all}
 use Rattle.text.specs.Hex.{hex_of}
 use Rattle.text.specs.Written.{written}
@@ -16,13 +16,12 @@ unfolding hex_of
 loop-i-init c = (omega arith, λ l e. rw append-nil e)
 
 pub loop-i-preserved : goal.loop-i-preserved
-loop-i-preserved c =
-    (
-      omega arith,
-      λ l e. c.push_byte-r.ensures (l ++ hex_of (take c.loop-i.i c.args.bs.now)) (c.loop-i.invariant.1 l e)
-          ∙ ap written (grows hex_of hex_of-append l c.args.bs.now c.loop-i.i c.loop-i-test.true),
-    )
+loop-i-preserved c = (
+  omega arith,
+  λ l e. c.push_byte-r.ensures (l ++ hex_of (take c.loop-i.i c.args.bs.now)) (c.loop-i.invariant.1 l e)
+      ∙ ap written (grows hex_of hex_of-append l c.args.bs.now c.loop-i.i c.loop-i-test.true),
+)
 
 pub returns : goal.returns
 returns c l e =
-        c.loop-i.invariant.1 l e ∙ ap (λ (x : List ℕ). written (l ++ hex_of x)) (take_all c.loop-i.i c.args.bs.now c.loop-i-test.false)
+    c.loop-i.invariant.1 l e ∙ ap (λ (x : List ℕ). written (l ++ hex_of x)) (take_all c.loop-i.i c.args.bs.now c.loop-i-test.false)

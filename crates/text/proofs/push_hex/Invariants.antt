@@ -1,14 +1,10 @@
 -- `text::push_hex` holds, at each turn, the digits of the bytes passed so far.
-use mathlib.Core.Path.{◌≡◌, ap, ◌∙◌}
-use mathlib.Core.List.{List, ◌++◌, append-nil}
+use mathlib.Core.Path.{◌≡◌}
+use mathlib.Core.List.{List, ◌++◌}
 use Prim.Native.Nat.{ℕ, ◌≤◌, ◌-◌}
-use native.Mathlib.Omega.{arith}
 use lib.ListN.{length, take}
-use lib.Seq.{take_all}
 use Rattle.text.specs.Hex.{hex_of}
 use Rattle.text.specs.Written.{written}
-use Rattle.text.proofs.Texts.{grows}
-use Rattle.text.proofs.Numerals.{hex_of-append}
 use Rattle.text.proofs.push_hex.Given as goal
 
 abbrev pub invariant-loop-i : goal.invariant-loop-i

@@ -1,11 +1,10 @@
 -- `turning::arrive`: the words below place q have come.
 use mathlib.Core.Path.{refl, ap}
 use mathlib.Core.List.{List}
-use Prim.Native.Nat.{ℕ, ◌+◌, ◌-◌, ◌≤◌}
+use Prim.Native.Nat.{ℕ, ◌+◌}
 use native.Mathlib.Omega.{arith}
 use lib.ListN.{get_or}
-use Rattle.turning.specs.Inner.{inward_in}
-use Rattle.turning.proofs.Passes.{Up, up_none, up_more, PlacedAt, all_placed}
+use Rattle.turning.proofs.Passes.{up_none, up_more, all_placed}
 use Rattle.turning.proofs.arrive.Goals as goal
 
 pub loop-q-init : goal.loop-q-init

@@ -1,5 +1,4 @@
 -- `turning::cross`: its words, bit by bit.
-use borrow.Author.Rules.{rules}
 use Rattle.turning.proofs.Crossing.{crosses}
 use Rattle.turning.proofs.cross.Goals as goal
 

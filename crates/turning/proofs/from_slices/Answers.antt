@@ -1,6 +1,5 @@
 -- `turning::from_slices`: of the right lengths, all of it.
 use mathlib.Core.Path.{sym, ◌∙◌}
-use borrow.Author.Rules.{rules}
 use Rattle.bits.proofs.Truth.{told-true, told-false}
 use Rattle.bits.proofs.Computed.{cond-true, cond-false}
 use Rattle.turning.proofs.Blocks.{whole_is}

@@ -1,11 +1,10 @@
 -- `turning::leave`: the words below place i have come.
 use mathlib.Core.Path.{refl, ap}
 use mathlib.Core.List.{List}
-use Prim.Native.Nat.{ℕ, ◌+◌, ◌-◌, ◌≤◌}
+use Prim.Native.Nat.{ℕ, ◌+◌}
 use native.Mathlib.Omega.{arith}
 use lib.ListN.{get_or}
-use Rattle.turning.specs.Inner.{outward_in, pairwise}
-use Rattle.turning.proofs.Passes.{Up, up_none, up_more, PlacedAt, all_placed}
+use Rattle.turning.proofs.Passes.{up_none, up_more, all_placed}
 use Rattle.turning.proofs.leave.Goals as goal
 
 pub loop-i-init : goal.loop-i-init

@@ -1,11 +1,7 @@
 -- `turning::leave`: the words below place i have come.
-use mathlib.Core.Path.{refl, ap}
-use mathlib.Core.List.{List}
-use Prim.Native.Nat.{ℕ, ◌+◌, ◌-◌, ◌≤◌}
-use native.Mathlib.Omega.{arith}
-use lib.ListN.{get_or}
+use Prim.Native.Nat.{◌-◌, ◌≤◌}
 use Rattle.turning.specs.Inner.{outward_in, pairwise}
-use Rattle.turning.proofs.Passes.{Up, up_none, up_more, PlacedAt, all_placed}
+use Rattle.turning.proofs.Passes.{Up, PlacedAt}
 use Rattle.turning.proofs.leave.Given as goal
 
 abbrev pub invariant-loop-i : goal.invariant-loop-i

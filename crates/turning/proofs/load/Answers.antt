@@ -1,8 +1,8 @@
 -- `turning::load`: the halves below place 2 b are right.
-use Prim.Native.Nat.{◌-◌, ◌*◌, ◌≤◌}
+use Prim.Native.Nat.{◌*◌}
 use native.Mathlib.Omega.{arith}
 use lib.ListN.{length-set}
-use Rattle.turning.proofs.Passes.{Up, up_none, HalfAt, block_more, all_halves}
+use Rattle.turning.proofs.Passes.{up_none, block_more, all_halves}
 use Rattle.turning.proofs.load.Goals as goal
 
 pub loop-b-init : goal.loop-b-init

@@ -1,8 +1,6 @@
 -- `turning::load`: the halves below place 2 b are right.
 use Prim.Native.Nat.{◌-◌, ◌*◌, ◌≤◌}
-use native.Mathlib.Omega.{arith}
-use lib.ListN.{length-set}
-use Rattle.turning.proofs.Passes.{Up, up_none, HalfAt, block_more, all_halves}
+use Rattle.turning.proofs.Passes.{Up, HalfAt}
 use Rattle.turning.proofs.load.Given as goal
 
 abbrev pub invariant-loop-b : goal.invariant-loop-b

@@ -1,8 +1,7 @@
 -- `turning::narrow`: the words below place 8 i are right.
 use Prim.Native.Nat.{◌-◌, ◌*◌, ◌≤◌}
-use native.Mathlib.Omega.{arith}
 use Rattle.turning.specs.Inner.{bit_from, bit_to}
-use Rattle.turning.proofs.Passes.{Up, up_none, up_is, eight_more, PassedAt, part, passed, bit-small}
+use Rattle.turning.proofs.Passes.{Up, PassedAt}
 use Rattle.turning.proofs.narrow.Given as goal
 
 abbrev pub invariant-loop-i : goal.invariant-loop-i

@@ -1,10 +1,10 @@
 -- `turning::put` copies one byte a turn.
 use mathlib.Core.Path.{◌≡◌, refl, sym, ◌∙◌}
-use Prim.Native.Nat.{◌+◌, ◌-◌, ◌≤◌}
+use Prim.Native.Nat.{◌+◌}
 use native.Mathlib.Omega.{arith}
 use lib.ListN.{length}
 use borrow.Author.Rules.{rules}
-use Rattle.bits.proofs.Filling.{written, written-length, written_more, written_all}
+use Rattle.bits.proofs.Filling.{written-length, written_more, written_all}
 use Rattle.turning.proofs.put.Goals as goal
 
 pub loop-i-init : goal.loop-i-init

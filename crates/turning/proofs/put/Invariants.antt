@@ -1,10 +1,8 @@
 -- `turning::put` copies one byte a turn.
-use mathlib.Core.Path.{◌≡◌, refl, sym, ◌∙◌}
-use Prim.Native.Nat.{◌+◌, ◌-◌, ◌≤◌}
-use native.Mathlib.Omega.{arith}
+use mathlib.Core.Path.{◌≡◌}
+use Prim.Native.Nat.{◌-◌, ◌≤◌}
 use lib.ListN.{length}
-use borrow.Author.Rules.{rules}
-use Rattle.bits.proofs.Filling.{written, written-length, written_more, written_all}
+use Rattle.bits.proofs.Filling.{written}
 use Rattle.turning.proofs.put.Given as goal
 
 abbrev pub invariant-loop-i : goal.invariant-loop-i

@@ -1,6 +1,5 @@
 -- `turning::put_block`: eight bytes, and eight.
 use mathlib.Core.Path.{◌∙◌}
-use borrow.Author.Rules.{rules}
 use Rattle.published.specs.Bytes.{to_bytes}
 use Rattle.published.proofs.Reading.{length_to_bytes}
 use Rattle.turning.proofs.Blocks.{laid}

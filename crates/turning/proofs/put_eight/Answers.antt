@@ -2,7 +2,6 @@
 use mathlib.Core.Path.{refl}
 use native.Mathlib.Omega.{arith}
 use lib.ListN.{length-set}
-use borrow.Author.Rules.{rules}
 use Rattle.turning.specs.Inner.{eight_put}
 use Rattle.turning.proofs.put_eight.Goals as goal
 

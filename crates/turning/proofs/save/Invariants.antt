@@ -1,15 +1,10 @@
 -- `turning::save`: the blocks before place 16 b are written.
-use mathlib.Core.Path.{◌≡◌, refl, sym, ◌∙◌}
+use mathlib.Core.Path.{◌≡◌}
 use mathlib.Core.List.{List, ◌++◌}
 use Prim.Native.Nat.{ℕ, ◌+◌, ◌-◌, ◌*◌, ◌≤◌}
-use native.Mathlib.Omega.{arith}
 use lib.ListN.{length, take, get_or}
-use borrow.Rule.Slice.PartMut.{same_len_mid}
 use Rattle.published.specs.Bytes.{to_bytes}
 use Rattle.published.specs.Blocks.{joined}
-use Rattle.published.proofs.Many.{one_part}
-use Rattle.published.proofs.Groups.{joined_none}
-use Rattle.turning.proofs.Blocks.{block-put, all_blocks}
 use Rattle.turning.proofs.save.Given as goal
 
 abbrev pub block : List ℕ → ℕ → List ℕ

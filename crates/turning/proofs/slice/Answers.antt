@@ -1,5 +1,4 @@
 -- `turning::slice`: loaded, turned, and each slice at its place.
-use borrow.Author.Rules.{rules}
 use Rattle.turning.proofs.Blocks.{loads}
 use Rattle.turning.proofs.slice.Goals as goal
 

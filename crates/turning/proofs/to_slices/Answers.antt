@@ -1,7 +1,6 @@
 -- `turning::to_slices`: of the right lengths, all of it.
 use mathlib.Core.Path.{refl, sym, ◌∙◌}
 use mathlib.Core.Bool.{false≢true}
-use borrow.Author.Rules.{rules}
 use Rattle.bits.proofs.Truth.{told-true, told-false}
 use Rattle.turning.proofs.Blocks.{whole_is}
 use Rattle.turning.proofs.to_slices.Goals as goal

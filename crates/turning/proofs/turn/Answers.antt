@@ -1,5 +1,4 @@
 -- `turning::turn`: both passes.
-use borrow.Author.Rules.{rules}
 use Rattle.turning.proofs.Passes.{both_passes}
 use Rattle.turning.proofs.turn.Goals as goal
 

@@ -1,5 +1,4 @@
 -- `turning::unslice`: each slice at its place, turned, and saved.
-use borrow.Author.Rules.{rules}
 use Rattle.turning.proofs.Blocks.{saves}
 use Rattle.turning.proofs.unslice.Goals as goal
 

@@ -1,8 +1,7 @@
 -- `turning::wide`: the words below place 8 i are right.
 use Prim.Native.Nat.{◌-◌, ◌*◌, ◌≤◌}
-use native.Mathlib.Omega.{arith}
 use Rattle.turning.specs.Inner.{byte_from, byte_to}
-use Rattle.turning.proofs.Passes.{Up, up_none, up_is, eight_more, PassedAt, part, passed, byte_small}
+use Rattle.turning.proofs.Passes.{Up, PassedAt}
 use Rattle.turning.proofs.wide.Given as goal
 
 abbrev pub invariant-loop-i : goal.invariant-loop-i

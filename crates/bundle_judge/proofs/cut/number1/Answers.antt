@@ -1,6 +1,5 @@
 -- `bundle_judge::cut::number1`: the byte itself.
 use mathlib.Core.Path.{sym, ◌∙◌}
-use borrow.Author.Rules.{rules}
 use Rattle.bundle_judge.proofs.Cutting.{number_one}
 use Rattle.bundle_judge.proofs.cut.number1.Goals as goal
 

@@ -1,7 +1,6 @@
 -- `bundle_judge::cut::number4`: two bytes, and two more.
 use mathlib.Core.Path.{sym, ap₂, ◌∙◌}
 use Prim.Native.Nat.{ℕ, ◌+◌, ◌*◌}
-use borrow.Author.Rules.{rules}
 use Rattle.bundle_judge.proofs.Cutting.{number-four}
 use Rattle.bundle_judge.proofs.cut.number4.Goals as goal
 

@@ -1,5 +1,4 @@
 -- `bundle_judge::cut::row_in`: its five numbers.
-use borrow.Author.Rules.{rules}
 use Rattle.bundle_judge.proofs.Cutting.{row_there}
 use Rattle.bundle_judge.proofs.cut.row_in.Goals as goal
 

@@ -2,12 +2,12 @@
 use mathlib.Core.Path.{refl, sym}
 use mathlib.Core.Bool.{false}
 use mathlib.Core.List.{List}
-use Prim.Native.Nat.{ℕ, ◌-◌, ◌≤◌}
+use Prim.Native.Nat.{ℕ}
 use native.Mathlib.Omega.{arith}
 use lib.ListN.{drop}
 use Rattle.bits.proofs.Truth.{told-false, told-true}
 use Rattle.bundle_format.specs.Reader.{rows_from, all_known}
-use Rattle.bundle_judge.proofs.Cutting.{Left, left_start, left_end, left_stop, left_more}
+use Rattle.bundle_judge.proofs.Cutting.{left_start, left_end, left_stop, left_more}
 use Rattle.bundle_judge.proofs.Judging.{known_more, known_not}
 use Rattle.bundle_judge.proofs.judge.all_known.Goals as goal
 

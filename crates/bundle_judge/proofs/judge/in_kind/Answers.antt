@@ -1,5 +1,4 @@
 -- `bundle_judge::judge::in_kind`, test by test.
-use borrow.Author.Rules.{rules}
 use Rattle.bits.proofs.Truth.{told-false, told-true}
 use Rattle.bundle_format.specs.Reader.{in_kind}
 use Rattle.bundle_judge.proofs.judge.in_kind.Goals as goal

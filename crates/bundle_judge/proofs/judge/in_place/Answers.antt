@@ -1,7 +1,6 @@
 -- `bundle_judge::judge::in_place`, test by test.
 use Prim.Native.Nat.{◌+◌}
 use native.Mathlib.Omega.{arith}
-use borrow.Author.Rules.{rules}
 use borrow.Author.Tests.{eq-eqb, ne_eqb, le-leb, lt-leb}
 use Rattle.bundle_format.specs.Reader.{in_place}
 use Rattle.bundle_judge.proofs.judge.in_place.Goals as goal

@@ -1,5 +1,4 @@
 -- `bundle_judge::judge::knows_row`: an entry that need not be known, or whose kind is.
-use borrow.Author.Rules.{rules}
 use borrow.Author.Tests.{ne_eqb}
 use Rattle.bundle_judge.proofs.judge.knows_row.Goals as goal
 

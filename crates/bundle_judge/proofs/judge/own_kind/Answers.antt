@@ -1,5 +1,4 @@
 -- `bundle_judge::judge::own_kind`: a later edition, or a kind of this one.
-use borrow.Author.Rules.{rules}
 use borrow.Author.Tests.{lt-ltb, le-ltb}
 use Rattle.bundle_judge.proofs.judge.own_kind.Goals as goal
 

@@ -2,14 +2,14 @@
 use mathlib.Core.Path.{refl, sym}
 use mathlib.Core.Bool.{false}
 use mathlib.Core.List.{List}
-use Prim.Native.Nat.{ℕ, ◌+◌, ◌-◌, ◌≤◌}
+use Prim.Native.Nat.{ℕ, ◌+◌}
 use native.Mathlib.Omega.{arith}
 use lib.ListN.{drop}
 use Rattle.bits.proofs.Truth.{both, told-false, told-true}
 use Rattle.bundle_format.proofs.Editions.{stands_only}
 use Rattle.bundle_format.specs.Format.{first_body}
 use Rattle.bundle_format.specs.Reader.{end_of, rows_from, in_place, sound_rows}
-use Rattle.bundle_judge.proofs.Cutting.{Left, left_start, left_end, left_stop, left_more}
+use Rattle.bundle_judge.proofs.Cutting.{left_start, left_end, left_stop, left_more}
 use Rattle.bundle_judge.proofs.Judging.{sound-told, sound_more, sound_not}
 use Rattle.bundle_judge.proofs.judge.sound_rows.Goals as goal
 

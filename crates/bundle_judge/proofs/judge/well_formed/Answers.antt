@@ -1,6 +1,5 @@
 -- `bundle_judge::judge::well_formed`, test by test.
 use mathlib.Core.Path.{refl}
-use borrow.Author.Rules.{rules}
 use borrow.Author.Tests.{le-leb, lt-leb}
 use Rattle.bundle_judge.proofs.Judging.{formed_by, short_not_formed}
 use Rattle.bundle_judge.proofs.judge.well_formed.Goals as goal

@@ -1,7 +1,6 @@
 -- `bundle_writer::judge::good_rows`, test by test.
 use mathlib.Core.Path.{refl, sym, ◌∙◌}
 use native.Mathlib.Omega.{arith}
-use borrow.Author.Rules.{rules}
 use borrow.Author.Tests.{ne_eqb}
 use Rattle.bundle_format.specs.Writer.{good_rows}
 use Rattle.bundle_writer.proofs.Numbered.{too_many, other_size, too_long, settings_left}

@@ -1,13 +1,9 @@
 -- `bundle_writer::judge::good_settings`: the settings before row i are good; the next has id `low` at least, and its body is at `from` in the pool.
-use mathlib.Core.Path.{◌≡◌, sym, ap, ◌∙◌}
-use mathlib.Core.List.{List}
-use Prim.Native.Nat.{ℕ, ◌+◌, ◌-◌, ◌≤◌}
-use native.Mathlib.Omega.{arith}
-use lib.ListN.{length, take, drop}
-use borrow.Author.Tests.{not-true, not-false}
-use Rattle.bundle_format.specs.Format.{good_setting, good_from}
+use Prim.Native.Nat.{◌-◌, ◌≤◌}
+use lib.ListN.{length}
+use Rattle.bundle_format.specs.Format.{good_from}
 use Rattle.bundle_format.specs.Writer.{list_from}
-use Rattle.bundle_writer.proofs.Lent.{Sums, sums-start, sums_fit, sums_more, Goods, goods_start, goods_stop, goods_more, goods_end}
+use Rattle.bundle_writer.proofs.Lent.{Sums, Goods}
 use Rattle.bundle_writer.proofs.judge.good_settings.Given as goal
 
 abbrev pub invariant-loop-i : goal.invariant-loop-i

@@ -1,5 +1,4 @@
 -- `bundle_writer::judge::lent_row`: its four numbers.
-use borrow.Author.Rules.{rules}
 use Rattle.bundle_writer.proofs.Lent.{lent_there}
 use Rattle.bundle_writer.proofs.judge.lent_row.Goals as goal
 

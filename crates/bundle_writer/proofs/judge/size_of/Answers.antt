@@ -1,8 +1,7 @@
 -- `bundle_writer::judge::size_of`: the sizes of the rows before row i are summed.
-use Prim.Native.Nat.{◌-◌, ◌*◌, ◌≤◌}
 use native.Mathlib.Omega.{arith}
 use Rattle.bundle_format.specs.Writer.{sizes}
-use Rattle.bundle_writer.proofs.Lent.{Sums, sums-start, sums-end, sums_more}
+use Rattle.bundle_writer.proofs.Lent.{sums-start, sums-end, sums_more}
 use Rattle.bundle_writer.proofs.judge.size_of.Goals as goal
 
 pub loop-i-init : goal.loop-i-init

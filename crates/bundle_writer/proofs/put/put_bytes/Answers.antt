@@ -1,9 +1,8 @@
 -- `bundle_writer::put::put_bytes`: the bytes before place i are copied.
-use mathlib.Core.Path.{◌≡◌, refl, sym}
-use Prim.Native.Nat.{◌-◌, ◌≤◌}
+use mathlib.Core.Path.{refl, sym}
 use native.Mathlib.Omega.{arith}
-use lib.ListN.{length, length-set}
-use Rattle.bits.proofs.Filling.{written, written_more, written_all}
+use lib.ListN.{length-set}
+use Rattle.bits.proofs.Filling.{written_more, written_all}
 use Rattle.bundle_writer.proofs.put.put_bytes.Goals as goal
 
 pub loop-i-init : goal.loop-i-init

@@ -1,7 +1,6 @@
 -- `bundle_writer::put::put_header`, byte by byte.
 use native.Mathlib.Omega.{arith}
 use lib.ListN.{length-set}
-use borrow.Author.Rules.{rules}
 use Rattle.bundle_writer.proofs.Stored.{header-stored}
 use Rattle.bundle_writer.proofs.put.put_header.Goals as goal
 

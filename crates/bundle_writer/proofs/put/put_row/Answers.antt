@@ -1,7 +1,6 @@
 -- `bundle_writer::put::put_row`, byte by byte.
 use native.Mathlib.Omega.{arith}
 use lib.ListN.{length-set}
-use borrow.Author.Rules.{rules}
 use Rattle.bundle_writer.proofs.Stored.{row-stored}
 use Rattle.bundle_writer.proofs.put.put_row.Goals as goal
 

@@ -1,14 +1,14 @@
 -- `bundle_writer::put::put_table`: the entries of the rows before row i are written; the body of the next is at `at`.
 use mathlib.Core.Path.{◌≡◌, refl, ap, ◌∙◌}
 use mathlib.Core.List.{List}
-use Prim.Native.Nat.{ℕ, ◌+◌, ◌-◌, ◌*◌, ◌≤◌}
+use Prim.Native.Nat.{ℕ, ◌+◌, ◌-◌, ◌*◌}
 use native.Mathlib.Omega.{arith}
 use lib.ListN.{length, length-take, length-drop}
 use Rattle.bundle_format.proofs.Rows.{length-row}
 use Rattle.bundle_format.specs.Format.{table_of}
 use Rattle.bundle_format.specs.Writer.{sizes}
-use Rattle.bundle_writer.proofs.Lent.{Sums, sums-start, sums_fit, sums_more}
-use Rattle.bundle_writer.proofs.Stored.{Tables, tables_start, tables_more, tables_end, put-length}
+use Rattle.bundle_writer.proofs.Lent.{sums-start, sums_fit, sums_more}
+use Rattle.bundle_writer.proofs.Stored.{tables_start, tables_more, tables_end, put-length}
 use Rattle.bundle_writer.specs.Inner.{lent_rows}
 use Rattle.bundle_writer.proofs.put.put_table.Goals as goal
 

@@ -3,7 +3,6 @@ use mathlib.Core.Path.{◌≡◌, refl, ap, ◌∙◌}
 use mathlib.Core.List.{List}
 use Prim.Native.Nat.{ℕ}
 use lib.ListN.{length, take}
-use borrow.Author.Rules.{rules}
 use Rattle.bundle_format.proofs.Encoded.{length-tag}
 use Rattle.bundle_format.specs.Format.{tag_of}
 use Rattle.bundle_writer.proofs.Stored.{tag-put, tag_made}

@@ -4,7 +4,6 @@ use mathlib.Core.List.{List}
 use Prim.Native.Nat.{ℕ, ◌+◌, ◌-◌, ◌*◌}
 use native.Mathlib.Omega.{arith}
 use lib.ListN.{length}
-use borrow.Author.Rules.{rules}
 use Rattle.bundle_format.proofs.Encoded.{length-header}
 use Rattle.bundle_writer.proofs.Stored.{untagged_is, length_lent, three-parts}
 use Rattle.bundle_writer.proofs.put.put_untagged.Goals as goal

@@ -1,5 +1,4 @@
 -- `gift128::Gift128::new`: the number and the words of expansion into eighty zeros.
-use borrow.Author.Rules.{rules}
 use Rattle.key_schedule.specs.Expand.{expand_code}
 use Rattle.gift128.proofs.Gift128.new.Goals as goal
 

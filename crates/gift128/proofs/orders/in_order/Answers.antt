@@ -1,5 +1,4 @@
 -- `gift128::orders::in_order` tries 13, and then what came in.
-use borrow.Author.Rules.{rules}
 use Rattle.bits.proofs.Truth.{told-false, told-true}
 use Rattle.gift128.specs.Calls.{order_code}
 use Rattle.gift128.proofs.orders.in_order.Goals as goal

@@ -1,5 +1,4 @@
 -- `gift128::orders::key_code` tries 1, 2.
-use borrow.Author.Rules.{rules}
 use borrow.Author.Tests.{ne_eqb}
 use Rattle.published.specs.Calls.{key_code}
 use Rattle.gift128.proofs.orders.key_code.Goals as goal

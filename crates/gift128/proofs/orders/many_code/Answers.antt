@@ -1,5 +1,4 @@
 -- `gift128::orders::many_code` tries 1, 2, 3.
-use borrow.Author.Rules.{rules}
 use borrow.Author.Tests.{ne_eqb}
 use Rattle.published.specs.Calls.{many_code}
 use Rattle.gift128.proofs.orders.many_code.Goals as goal

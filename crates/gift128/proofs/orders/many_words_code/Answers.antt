@@ -1,5 +1,4 @@
 -- `gift128::orders::many_words_code` tries 4, 2, 3.
-use borrow.Author.Rules.{rules}
 use borrow.Author.Tests.{ne_eqb}
 use Rattle.gift128.specs.Calls.{many_words_code}
 use Rattle.gift128.proofs.orders.many_words_code.Goals as goal

@@ -1,5 +1,4 @@
 -- `gift128::orders::words_code` tries 4, 2.
-use borrow.Author.Rules.{rules}
 use borrow.Author.Tests.{ne_eqb}
 use Rattle.gift128.specs.Calls.{words_code}
 use Rattle.gift128.proofs.orders.words_code.Goals as goal

@@ -1,12 +1,11 @@
 -- `gift64::rounds::decrypt_state`: the rounds from i on are undone.
 use mathlib.Core.Path.{◌≡◌, refl, ap, ◌∙◌}
 use mathlib.Core.List.{List}
-use Prim.Native.Nat.{ℕ, ◌+◌, ◌-◌, ◌%◌, ◌≤◌}
+use Prim.Native.Nat.{ℕ, ◌+◌, ◌-◌}
 use native.Mathlib.Omega.{arith}
-use borrow.Author.Rules.{rules}
 use Rattle.published.specs.Rounds.{unrounds}
 use Rattle.published.specs.Gift64.{unrounds64}
-use Rattle.primitives.specs.Packed.{block_of64, Words}
+use Rattle.primitives.specs.Packed.{block_of64}
 use Rattle.gift64.specs.Inner.{pairs_in}
 use Rattle.gift64.proofs.Turning.{undone-words}
 use Rattle.gift64.proofs.Rounding.{backward}

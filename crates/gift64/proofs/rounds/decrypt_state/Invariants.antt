@@ -1,15 +1,9 @@
 -- `gift64::rounds::decrypt_state`: the rounds from i on are undone.
-use mathlib.Core.Path.{◌≡◌, refl, ap, ◌∙◌}
-use mathlib.Core.List.{List}
-use Prim.Native.Nat.{ℕ, ◌+◌, ◌-◌, ◌%◌, ◌≤◌}
-use native.Mathlib.Omega.{arith}
-use borrow.Author.Rules.{rules}
-use Rattle.published.specs.Rounds.{unrounds}
+use mathlib.Core.Path.{◌≡◌}
+use Prim.Native.Nat.{◌-◌, ◌%◌, ◌≤◌}
 use Rattle.published.specs.Gift64.{unrounds64}
 use Rattle.primitives.specs.Packed.{block_of64, Words}
 use Rattle.gift64.specs.Inner.{pairs_in}
-use Rattle.gift64.proofs.Turning.{undone-words}
-use Rattle.gift64.proofs.Rounding.{backward}
 use Rattle.gift64.proofs.rounds.decrypt_state.Given as goal
 
 abbrev pub invariant-loop-i : goal.invariant-loop-i

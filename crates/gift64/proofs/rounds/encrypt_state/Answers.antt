@@ -1,9 +1,8 @@
 -- `gift64::rounds::encrypt_state`: the rounds from i on of the block that the words stand for give what all of them give.
 use mathlib.Core.Path.{◌≡◌, refl, ap, ◌∙◌}
 use mathlib.Core.List.{List}
-use Prim.Native.Nat.{ℕ, ◌-◌, ◌%◌, ◌≤◌}
+use Prim.Native.Nat.{ℕ, ◌-◌}
 use native.Mathlib.Omega.{arith}
-use borrow.Author.Rules.{rules}
 use Rattle.published.specs.Rounds.{rounds}
 use Rattle.published.specs.Gift64.{rounds64}
 use Rattle.primitives.specs.Packed.{block_of64}

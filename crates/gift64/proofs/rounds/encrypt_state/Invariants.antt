@@ -1,14 +1,9 @@
 -- `gift64::rounds::encrypt_state`: the rounds from i on of the block that the words stand for give what all of them give.
-use mathlib.Core.Path.{◌≡◌, refl, ap, ◌∙◌}
-use mathlib.Core.List.{List}
-use Prim.Native.Nat.{ℕ, ◌-◌, ◌%◌, ◌≤◌}
-use native.Mathlib.Omega.{arith}
-use borrow.Author.Rules.{rules}
-use Rattle.published.specs.Rounds.{rounds}
+use mathlib.Core.Path.{◌≡◌}
+use Prim.Native.Nat.{◌-◌, ◌%◌, ◌≤◌}
 use Rattle.published.specs.Gift64.{rounds64}
 use Rattle.primitives.specs.Packed.{block_of64}
 use Rattle.gift64.specs.Inner.{pairs_in}
-use Rattle.gift64.proofs.Rounding.{forward}
 use Rattle.gift64.proofs.rounds.encrypt_state.Given as goal
 
 abbrev pub invariant-loop-i : goal.invariant-loop-i

@@ -1,6 +1,5 @@
 -- `gift64::rounds::round_0`: the box, the moves, the key and the constant, one after the other.
 use mathlib.Core.Path.{ap, ◌∙◌}
-use borrow.Author.Rules.{rules}
 use Rattle.primitives.specs.declared.State.{State}
 use Rattle.quintuple.specs.Inner.{exchanged_of}
 use Rattle.gift64.specs.Inner.{moved_by, keyed_of, subround}

@@ -3,7 +3,6 @@ use mathlib.Core.Path.{sym, ◌∙◌}
 use mathlib.Core.List.{List, [], ◌∷◌}
 use Prim.Native.Nat.{ℕ, zero, suc}
 use lib.ListN.{get_or}
-use borrow.Author.Rules.{rules}
 use borrow.Author.Tests.{lt-ltb, le-ltb}
 use Rattle.bits.specs.Digit.{digit, number, bit, of_bits}
 use Rattle.bits.proofs.Computed.{cond-true, cond-false, agree}

@@ -1,6 +1,5 @@
 -- `gift64::rounds::rows`: its swaps are the moves of a round from turned words, by tests of their places.
 use mathlib.Core.Path.{refl}
-use borrow.Author.Rules.{rules}
 use Rattle.bits.specs.Digit.{bit, digit}
 use Rattle.primitives.specs.declared.State.{State}
 use Rattle.primitives.proofs.Swaps.{exchange}

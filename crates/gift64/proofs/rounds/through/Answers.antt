@@ -1,5 +1,4 @@
 -- `gift64::rounds::through`: the rounds done, or undone.
-use borrow.Author.Rules.{rules}
 use Rattle.gift64.proofs.rounds.through.Goals as goal
 
 pub returns-then-back : goal.returns-then-back

@@ -1,6 +1,5 @@
 -- `gift64::rounds::unround_0`: the key and the constant, the moves and the inverse box, one after the other.
 use mathlib.Core.Path.{ap, ◌∙◌}
-use borrow.Author.Rules.{rules}
 use Rattle.published.specs.Inner.{unentry}
 use Rattle.quintuple.specs.Boxes.{boxed}
 use Rattle.quintuple.specs.Inner.{exchanged_of}

@@ -1,6 +1,6 @@
 -- `gift64::words::expand`: the words of the first 2 i rounds are stored, and the key state stands after them.
-use mathlib.Core.Path.{◌≡◌, ap, ◌∙◌}
-use Prim.Native.Nat.{ℕ, ◌-◌, ◌*◌, ◌≤◌}
+use mathlib.Core.Path.{ap, ◌∙◌}
+use Prim.Native.Nat.{ℕ, ◌*◌}
 use native.Mathlib.Omega.{arith}
 use borrow.Author.Rules.{rules}
 use Rattle.published.specs.Bytes.{from_bytes}
@@ -9,7 +9,7 @@ use Rattle.primitives.specs.Words.{permuted}
 use Rattle.key_schedule.specs.declared.Four.{Four}
 use Rattle.key_schedule.proofs.KeyState.{four_of}
 use Rattle.gift64.specs.Inner.{pair_in, turn}
-use Rattle.gift64.proofs.Keys.{after, pair-packed, pair-turned, two_further, first_four, Stored, none_stored, two_stored, all_stored}
+use Rattle.gift64.proofs.Keys.{after, pair-packed, pair-turned, two_further, first_four, none_stored, two_stored, all_stored}
 use Rattle.gift64.proofs.words.expand.Goals as goal
 
 pub loop-i-init : goal.loop-i-init

@@ -1,6 +1,5 @@
 -- `gift64::words::turned`: its two swaps turn both halves, by a test of their places.
 use mathlib.Core.Path.{refl}
-use borrow.Author.Rules.{rules}
 use Rattle.bits.specs.Digit.{bit, digit}
 use Rattle.primitives.proofs.Swaps.{exchange}
 use Rattle.quintuple.proofs.Shapes.{same_move, swapped, one_after}

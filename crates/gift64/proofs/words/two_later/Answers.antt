@@ -1,6 +1,5 @@
 -- `gift64::words::two_later`: two words pass on, and two are updated.
 use mathlib.Core.Path.{refl}
-use borrow.Author.Rules.{rules}
 use Rattle.key_schedule.proofs.TenWords.{same_four}
 use Rattle.gift64.proofs.words.two_later.Goals as goal
 

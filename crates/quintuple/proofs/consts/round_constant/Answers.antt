@@ -1,6 +1,5 @@
 -- `quintuple::consts::round_constant`: the table's rule, and 0 past its end.
 use mathlib.Core.Path.{sym, ◌∙◌}
-use borrow.Author.Rules.{rules}
 use borrow.Author.Tests.{lt-ltb, le-ltb}
 use Rattle.bits.specs.Digit.{digit, number, bit, of_bits}
 use Rattle.bits.proofs.Computed.{cond-true, cond-false}
