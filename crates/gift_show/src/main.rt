@@ -1,7 +1,7 @@
 // gift_show EDITION KEY: what a node of that edition, 1 or 2, sees of the bundle on standard input, as a list; or the refusal's number. What it writes of a bundle is proved in `bundle_text`, of any bytes.
 #![tactic(auto)]
 
-ghost use Rattle.std.specs.Prelude.{◌≤◌, length};
+ghost use Rattle.std.specs.Prelude.{◌≤◌, length, IfOk};
 
 use bundle_format::Opened;
 use std::fs::File;
