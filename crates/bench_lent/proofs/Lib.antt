@@ -5,12 +5,3 @@ pub mod UnderWay
 pub mod Effects
 pub mod Answering
 pub mod OneOutcome
-pub mod Walk
-pub mod Again
-pub mod Plain
-pub mod Calling
-pub mod Records
-pub mod Lending
-pub mod Parts
-pub mod Steps
-pub mod Looping

@@ -1,3 +1,2 @@
--- What the functions share that hand lent records on.
-pub mod Passing
+-- Facts about promises that several functions of the library for hosts share.
 pub mod Engines64

@@ -1,0 +1,17 @@
+-- `bench::admits_at` tells whether a lane is open to a caller; past the last lane there is none, and the list's own default is idle.
+use mathlib.Core.Path.{◌≡◌, sym, ap}
+use native.Mathlib.Omega.{arith}
+use lib.ListN.{length, get_or-eq_default}
+use Rattle.lane.specs.declared.Lane.{Lane}
+use Rattle.lane.specs.Record.{admits}
+use Rattle.bench_orders.specs.Orders.{lane_count}
+use Rattle.bench_turns.proofs.Soundness.{unmapped}
+use Rattle.bench.proofs.admits_at.Goals as goal
+
+pub returns : goal.returns
+unfolding lane_count admits
+returns c =
+    let a = c.args in
+    let b = a.b in
+    let long : length b.lanes ≡ lane_count = search unmapped in
+    sym (ap (λ (l : Lane). admits l a.caller) (get_or-eq_default b.lanes _ (omega arith)))
