@@ -45,7 +45,9 @@ fn main(rt: HostRuntime) -> ExitCode {
     match run(&rt) {
         Ok(()) => ExitCode::SUCCESS,
         Err(_) => {
-            let _ = rt.eprintln("gift-lines: reading or writing failed, so the answer is not whole");
+            let _ = rt.eprintln(
+                "gift-lines: reading or writing failed, so the answer is not whole",
+            );
             ExitCode::FAILURE
         }
     }

@@ -83,6 +83,6 @@ returns g c =
     let r = c.loop-byte.reader in
     let last = shown (written (closing_of r)) in
     on_ok-weaken c.show-2.result (λ p.
-      Consumes-whole _ _ fed (λ xs. length xs < 2 ^ 64 → Appends (g.W.Write.contents c.args.out.now) (g.W.Write.contents c.show-2.new.out) (output_of xs)) consumed c.in-None.ensures.steps (λ short.
-        subst (Appends (g.W.Write.contents c.args.out.now) (g.W.Write.contents c.show-2.new.out)) (all-answered r fed laid answers ∙ whole fed short) (Appends-trans _ _ _ laid last appended (subst (λ (t : Text). Appends (g.W.Write.contents c.loop-byte.out) (g.W.Write.contents c.show-2.new.out) (shown t)) c.closing.ensures p))))
+    Consumes-whole _ _ fed (λ xs. length xs < 2 ^ 64 → Appends (g.W.Write.contents c.args.out.now) (g.W.Write.contents c.show-2.new.out) (output_of xs)) consumed c.in-None.ensures.steps (λ short.
+    subst (Appends (g.W.Write.contents c.args.out.now) (g.W.Write.contents c.show-2.new.out)) (all-answered r fed laid answers ∙ whole fed short) (Appends-trans _ _ _ laid last appended (subst (λ (t : Text). Appends (g.W.Write.contents c.loop-byte.out) (g.W.Write.contents c.show-2.new.out) (shown t)) c.closing.ensures p))))
     c.show-2.ensures
