@@ -6,7 +6,7 @@
  *     18 flag 1 must-know
  *     19 text "Pier 4"       # from here to the end of the line is a comment
  *
- * The kind and the value are what ./gift differ prints of an answer (crates/differ_text/specs/Rendered.antt, sideText): a text stands in quotation marks, and there a byte outside
+ * The kind and the value are what ./gift differ prints of an answer (crates/differ_text/specs/Rendered.antt, side_text): a text stands in quotation marks, and there a byte outside
  * printable ASCII, a " and a \ are \x and two hex digits. Bundles are opened, written and compared by the proved library alone. */
 #ifndef DESK_H
 #define DESK_H

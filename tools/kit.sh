@@ -9,7 +9,7 @@ need_kit() {
         exit 2
     fi
     kit=${RATTLE_HOME:-$(cd "$(dirname "$(readlink -f "$(command -v rt)")")/.." && pwd -P)}
-    tools=$kit/on/$(uname -m)/toolchain
+    tools=$kit/toolchain
     kit_named=$(sed -n 's/^    \(rattle-kit-[^ ]* logic .*\)$/\1/p' README.md | head -n 1) kit_there=$(rt version)
     [ "$kit_there" = "$kit_named" ] ||
         echo "$1: the kit is '$kit_there', and README.md names '$kit_named': what the one proves the other may refuse" >&2
@@ -24,18 +24,17 @@ crates_of() {
               print n }' crates.txt
 }
 
-# progress NAME TOTAL: passes on standard input to standard output and tells on standard error, a plain line each, which crate of how many was proved anew. (A loop of the shell: an awk may hold its input back until it has a lot of it.)
+# progress NAME TOTAL: passes on standard input to standard output and tells on standard error, a plain line each, at which crate of how many a check or a build is. (A loop of the shell: an awk may hold its input back until it has a lot of it.)
 progress() {
-    progress_done=0
+    progress_at=0 progress_crate=''
     while IFS= read -r progress_line; do
         printf '%s\n' "$progress_line"
         case $progress_line in
-        'rt: '*' proved ('*)
-            progress_done=$((progress_done + 1))
-            case $progress_line in
-            *' (unchanged since '*) ;;
-            *) echo "$1: $progress_done of $2: ${progress_line#rt: }" >&2 ;;
-            esac
+        'rt: chose --jobs '*' for '*)
+            [ "${progress_line##* for }" != "$progress_crate" ] || continue
+            progress_crate=${progress_line##* for }
+            progress_at=$((progress_at + 1))
+            echo "$1: $progress_at of at most $2: $progress_crate" >&2
             ;;
         esac
     done
@@ -48,28 +47,35 @@ run() { # PROGRAM WORDS..
     ${emulator:+"$emulator"} "$tools/lib/ld-linux-x86-64.so.2" --library-path "$tools/lib" "$@"
 }
 
-# proving NAME LOG WORDS..: runs `rt WORDS..`, whose last word is a crate, with its progress on standard error and what it says in the file LOG; ends the script NAME
+# proving NAME LOG WORD CRATE: runs `rt WORD` for the crate, with its progress on standard error and what it says in the file LOG; ends the script NAME
 # with status 1 if something is not proved. Run at the top of the repository.
 proving() {
-    proving_name=$1 proving_log=$2
-    shift 2
-    for proving_crate; do :; done
-    mkdir -p "$(dirname "$proving_log")"
-    echo "$proving_name: proving $proving_crate and what it uses, $(crates_of "$proving_crate") crates" >&2
+    mkdir -p "$(dirname "$2")"
+    echo "$1: proving $4 and what it uses, $(crates_of "$4") crates" >&2
     {
-        rt "$@" 2>&1
-        echo $? >"$proving_log.status"
-    } | progress "$proving_name" "$(crates_of "$proving_crate")" >"$proving_log"
-    [ "$(cat "$proving_log.status")" != 0 ] || return 0
-    echo "$proving_name: $proving_crate is not proved; $proving_log has what was said:" >&2
-    tail -n 20 "$proving_log" >&2
+        (cd "crates/$4" && rt "$3" 2>&1)
+        echo $? >"$2.status"
+    } | progress "$1" "$(crates_of "$4")" >"$2"
+    [ "$(cat "$2.status")" != 0 ] || return 0
+    echo "$1: $4 is not proved; $2 has what was said:" >&2
+    tail -n 20 "$2" >&2
     exit 1
+}
+
+# prove_program NAME LOG CRATE: proves and builds a program, which is then target/bin/CRATE; ends the script NAME with status 1 if something is not proved.
+# The kit builds a program only to run it, so it is run once, in an empty folder's place and with no input; what it says there counts for nothing.
+prove_program() {
+    proving "$1" "$2" check "$3"
+    (cd "crates/$3" && rt run </dev/null >/dev/null 2>&1)
+    mkdir -p target/bin
+    cp "crates/$3/out/$3" "target/bin/$3" || { echo "$1: $3 is not built" >&2; exit 1; }
 }
 
 # prove_library NAME: proves and builds target/staticlib/libgift_host.a, or ends the script NAME with status 1.
 prove_library() {
-    mkdir -p target/hosts
-    proving "$1" target/hosts/staticlib.log staticlib gift_host
+    mkdir -p target/hosts target/staticlib
+    proving "$1" target/hosts/staticlib.log lib gift_host
+    cp crates/gift_host/out/libgift_host.a target/staticlib/libgift_host.a || { echo "$1: the library is not built" >&2; exit 1; }
 }
 
 # over_library SOURCE PROGRAM: builds a program in C over the library for hosts with the kit's own compiler, linker and C library. The kit has no headers: those of hosts/c/libc say

@@ -1,7 +1,7 @@
 /* A metered host, to copy from. Sixteen settings, one for each guest, came as GIFT-128 blocks. It decrypts them between its guests' slices of work,
  * three turns at a time, so that no guest waits for more than three turns. A lane is opened in its guest's name, and is that guest's alone.
  *
- *     rt staticlib gift_host && cc hosts/c/host.c target/staticlib/libgift_host.a
+ *     tools/built library && cc hosts/c/host.c target/staticlib/libgift_host.a
  *
  * builds it on x86-64 Linux; hosts/c/run, beside this file, with nothing but the kit. */
 #include <stdint.h>

@@ -1,7 +1,7 @@
 /* Two nodes and one bundle: a host of today writes settings of edition 2, and a node that still has edition 1 reads the same bytes. What it shows is right,
  * or it shows nothing.
  *
- *     rt staticlib gift_host && cc hosts/c/settings.c target/staticlib/libgift_host.a
+ *     tools/built library && cc hosts/c/settings.c target/staticlib/libgift_host.a
  *
  * builds it on x86-64 Linux; hosts/c/run, beside this file, with nothing but the kit. */
 #include <stdint.h>

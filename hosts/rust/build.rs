@@ -1,4 +1,4 @@
-//! Tells the linker where libgift_host.a is: in the folder that GIFT_HOST_LIB names, else where `rt staticlib gift_host` writes it in this repository. What needs no linking,
+//! Tells the linker where libgift_host.a is: in the folder that GIFT_HOST_LIB names, else where `tools/built library` writes it in this repository. What needs no linking,
 //! as `cargo check` and `cargo doc`, works without it.
 
 use std::env;
@@ -19,7 +19,7 @@ fn main() {
     if !fits {
         println!("cargo:warning=libgift_host.a is for x86-64 Linux, and this build is for {arch} {os}: it will not link (README.md says how to build across)");
     } else if !archive.is_file() {
-        println!("cargo:warning=there is no {}, so nothing will link: 'rt staticlib gift_host' makes it, and GIFT_HOST_LIB names another folder", archive.display());
+        println!("cargo:warning=there is no {}, so nothing will link: 'tools/built library' makes it, and GIFT_HOST_LIB names another folder", archive.display());
     } else {
         println!("cargo:rustc-link-search=native={}", folder.display());
         println!("cargo:rustc-link-lib=static=gift_host");
