@@ -1,8 +1,8 @@
 // Replays cases: makes each call that a line names, and compares what it gives and leaves with what the line says.
 //
-// Standard input is a file. A line of it is a case, the name of a call and fields (text.rt), or `## TEXT`, a heading, under which the cases
-// after it are counted, or `# TEXT`, a remark, or it tells a record of the bench (benches.rt). The last line of the output says how many
-// cases were equal and how many different. The cases that the gate replays stand in the file stdin beside src/.
+// A line of standard input is a case, the name of a call and fields (text.rt), or `## TEXT`, a heading, under which the cases after it are
+// counted, or `# TEXT`, a remark, or it tells a record of the bench (benches.rt). The last line of the output says how many cases were
+// equal and how many different. The cases that the gate replays stand in the file stdin beside src/.
 #![tactic(auto)]
 
 mod benches;
