@@ -4,53 +4,70 @@
 ghost use Rattle.std.specs.Prelude.{◌≤◌, length};
 
 use differ::Compared;
-use libc::STDOUT_FILENO;
+use std::fs::File;
+use std::io;
+use std::io::Read;
+use std::rt::Files;
 
-// All bytes of a file that fit; none of one that is missing, a folder, unreadable or longer: a bundle of no bytes is refused with 20, and a key with 1.
-fn read_whole(name: &[u8], buffer: &mut [u8]) -> usize
+// Reads until the buffer is full, the input ends or a read fails, and tells how many bytes that gave.
+fn read_full<R: Read>(input: &mut R, buffer: &mut [u8]) -> usize
     ensures { result ≤ length buffer.new }
 {
-    let file = os::open_read(name);
-    if file < 0 {
-        return 0;
+    let mut done = 0;
+    while done < buffer.len() {
+        match input.read(&mut buffer[done..]) {
+            Ok(0) | Err(_) => break,
+            Ok(n) => done += n,
+        }
     }
-    let count = io::read_full(file, buffer);
-    let mut probe = [0u8; 1];
-    let more = libc::read(file, &mut probe);
-    libc::close(file);
-    if more != 0 {
-        return 0;
-    }
-    count
+    done
 }
 
-// Where writing fails the rest is not written.
-fn show(compared: Compared, rows: &[u32], first: &[u8], second: &[u8], out: &mut [u8])
+// All bytes of a file that fit; none of one that is missing, a folder, unreadable or longer: a bundle of no bytes is refused with 20, and a key with 1.
+fn read_whole(rt: &impl Files, name: &str, buffer: &mut [u8]) -> usize
+    ensures { result ≤ length buffer.new }
+{
+    let Ok(mut file) = File::open(rt, name) else {
+        return 0;
+    };
+    let count = read_full(&mut file, buffer);
+    let mut probe = [0u8; 1];
+    match file.read(&mut probe) {
+        Ok(0) => count,
+        _ => 0,
+    }
+}
+
+fn show(
+    rt: &impl Print,
+    compared: Compared,
+    rows: &[u32],
+    first: &[u8],
+    second: &[u8],
+    out: &mut [u8],
+) -> io::Result<()>
     requires { compared.count ≤ 512 }
 {
-    let mut k: u32 = 0;
-    while k <= compared.count {
+    for k in 0..=compared.count {
         let n = differ_text::piece(compared, rows, k, first, second, out);
-        if !io::write_all(STDOUT_FILENO, &out[0..n]) {
-            return;
-        }
-        k += 1;
+        rt.write_all(&out[0..n])?;
     }
+    Ok(())
 }
 
-fn compare(key: &[u8], first: &[u8], second: &[u8]) {
+fn compare(rt: &impl Print, key: &[u8], first: &[u8], second: &[u8]) -> io::Result<()> {
     let mut rows = [0u32; 4608];
     let mut out = [0u8; 2080];
     let compared = differ::compare(key, first, second, &mut rows);
-    show(compared, &rows, first, second, &mut out);
+    show(rt, compared, &rows, first, second, &mut out)
 }
 
-fn main() {
-    let mut first = io::large_buffer();
-    let mut second = io::large_buffer();
+fn main(rt: HostRuntime) -> io::Result<()> {
+    let mut first = [0u8; 65536];
+    let mut second = [0u8; 65536];
     let mut key = [0u8; 16];
-    let a = read_whole(b"first.bundle", &mut first);
-    let b = read_whole(b"second.bundle", &mut second);
-    let k = read_whole(b"key", &mut key);
-    compare(&key[0..k], &first[0..a], &second[0..b]);
+    let a = read_whole(&rt, "first.bundle", &mut first);
+    let b = read_whole(&rt, "second.bundle", &mut second);
+    let k = read_whole(&rt, "key", &mut key);
+    compare(&rt, &key[0..k], &first[0..a], &second[0..b])
 }

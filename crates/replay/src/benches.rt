@@ -16,12 +16,10 @@ use primitives::State;
 // The first eighty words, with zeros where there are fewer.
 fn eighty(from: &[u32]) -> [u32; 80] {
     let mut to = [0u32; 80];
-    let mut i: usize = 0;
-    while i < 80 {
+    for i in 0..80 {
         if i < from.len() {
             to[i] = from[i];
         }
-        i += 1;
     }
     to
 }
@@ -99,10 +97,8 @@ fn same_lane(a: Lane, b: Lane) -> bool {
 
 fn same_lanes(a: [Lane; LANES], b: [Lane; LANES]) -> bool {
     let mut same = true;
-    let mut i: usize = 0;
-    while i < LANES {
+    for i in 0..LANES {
         same = same_lane(a[i], b[i]) & same;
-        i += 1;
     }
     same
 }
@@ -158,7 +154,7 @@ fn answers(a: Answer, wanted: Bench, line: &[u8]) -> bool {
 fn taken(b: Bench, lane: u32, wanted: Bench, line: &[u8]) -> bool {
     let z = lent(line);
     let mut buffer = z.bytes;
-    let n = io::count((z.n % BYTES) as isize, &buffer);
+    let n = z.n % BYTES;
     let a = bench::take(b, lane, owner(line), &mut buffer[..n]);
     left(line, front(&buffer, n)) & answers(a, wanted, line)
 }

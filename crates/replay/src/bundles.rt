@@ -97,7 +97,7 @@ fn written(line: &[u8], out: &mut [u8]) -> Written {
 fn right_written(line: &[u8]) -> bool {
     let z = lent(line);
     let mut buffer = z.bytes;
-    let n = io::count((z.n % BYTES) as isize, &buffer);
+    let n = z.n % BYTES;
     let w = written(line, &mut buffer[..n]);
     says_number(line, w.code) & says_one(line, b"total", w.total) & left(line, front(&buffer, n))
 }

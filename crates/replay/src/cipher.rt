@@ -1,7 +1,7 @@
 // The calls of the cipher and of its parts, by their numbers in main.rt: the fields of each are in oracle/README.md. A line that tells no order tells order 0.
 //
 // A field may hold any number of bytes or words, and all are lent: what a call refuses is a case too.
-ghost use Rattle.io.specs.Counts.{IsPrefixLen};
+ghost use Rattle.std.specs.Prelude.{◌≡◌, length, min};
 
 use crate::text;
 use crate::text::{
@@ -82,19 +82,16 @@ fn changed(call: u32, line: &[u8], lent: &mut [u8]) -> u32 {
 fn lent(call: u32, line: &[u8]) -> bool {
     let z = text::lent(line);
     let mut bytes = z.bytes;
-    let n = io::count((z.n % BYTES) as isize, &bytes);
+    let n = z.n % BYTES;
     let code = changed(call, line, &mut bytes[..n]);
     left(line, front(&bytes, n)) & says_number(line, code)
 }
 
 // m, or all of words where m is more.
 fn within(m: usize, words: &[u32]) -> usize
-    ensures { IsPrefixLen result words.now }
+    ensures { result ≡ min m (length words.now) }
 {
-    if m < words.len() {
-        return m;
-    }
-    words.len()
+    m.min(words.len())
 }
 
 fn expanded(line: &[u8]) -> bool {

@@ -23,7 +23,7 @@ fn on_key(call: u32, line: &[u8], lent: &mut [u8]) -> u32 {
 pub(crate) fn right(call: u32, line: &[u8]) -> bool {
     let z = text::lent(line);
     let mut bytes = z.bytes;
-    let n = io::count((z.n % BYTES) as isize, &bytes);
+    let n = z.n % BYTES;
     let code = on_key(call, line, &mut bytes[..n]);
     left(line, front(&bytes, n)) & says_number(line, code)
 }

@@ -83,7 +83,7 @@ fn fed(line: &[u8]) -> bool {
 fn tagged(call: u32, line: &[u8]) -> bool {
     let z = lent(line);
     let mut buffer = z.bytes;
-    let n = io::count((z.n % BYTES) as isize, &buffer);
+    let n = z.n % BYTES;
     let code = tag(call, line, &mut buffer[..n]);
     says_number(line, code) & left(line, front(&buffer, n))
 }

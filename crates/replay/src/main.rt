@@ -1,8 +1,8 @@
 // Replays cases: makes each call that a line names, and compares what it gives and leaves with what the line says.
 //
-// Standard input is a file. A line of it is a case, the name of a call and fields (text.rt), or `## TEXT`, a heading, under which the cases
-// after it are counted, or `# TEXT`, a remark, or it tells a record of the bench (benches.rt). The last line of the output says how many
-// cases were equal and how many different. The cases that the gate replays stand in the file stdin beside src/.
+// A line of standard input is a case, the name of a call and fields (text.rt), or `## TEXT`, a heading, under which the cases after it are
+// counted, or `# TEXT`, a remark, or it tells a record of the bench (benches.rt). The last line of the output says how many cases were
+// equal and how many different. The cases that the gate replays stand in the file stdin beside src/.
 #![tactic(auto)]
 
 mod benches;
@@ -14,19 +14,17 @@ mod streams;
 mod text;
 
 use bench::{Bench, LANES};
-use bytes::scan::find;
-use libc::{STDIN_FILENO, STDOUT_FILENO};
-use std::num::wrapping_add_u64;
-use text::number;
+use std::io;
+use std::io::{BufReader, Read};
+use text::{find, number};
 
 // How long a line can be.
 const LINE: usize = 4096;
 
-// Where the next line begins, how many cases were equal and how many different, how many were equal before the last heading, the bench, and
-// the bench as it is to be after the next call.
+// How many cases were equal and how many different, how many were equal before the last heading, the bench, and the bench as it is to be
+// after the next call.
 #[derive(Clone, Copy)]
 struct Run {
-    at: u64,
     equal: u64,
     different: u64,
     before: u64,
@@ -34,41 +32,33 @@ struct Run {
     told: Bench,
 }
 
-fn say(text: &[u8]) {
-    io::write_all(STDOUT_FILENO, text);
-}
-
-fn say_count(n: u64, text: &[u8]) {
-    io::print_decimal(STDOUT_FILENO, n);
-    say(text);
-}
-
 // Ends a heading's line with its count.
-fn closed(r: Run) {
+fn closed(rt: &impl Print, r: Run) -> io::Result<()> {
     if r.before < r.equal {
-        say_count(r.equal - r.before, b" equal\n");
+        println!(rt; "{} equal", r.equal - r.before)?;
     }
+    Ok(())
 }
 
-fn headed(r: Run, line: &[u8]) -> Run {
-    closed(r);
-    say(line);
-    say(b": ");
+fn headed(rt: &impl Print, r: Run, line: &[u8]) -> io::Result<Run> {
+    closed(rt, r)?;
+    rt.write_all(line)?;
+    rt.write_all(b": ")?;
     let mut q = r;
     q.before = r.equal;
-    q
+    Ok(q)
 }
 
-fn counted(r: Run, right: bool, line: &[u8]) -> Run {
+fn counted(rt: &impl Print, r: Run, right: bool, line: &[u8]) -> io::Result<Run> {
     let mut q = r;
     if right {
-        q.equal = wrapping_add_u64(r.equal, 1);
-        return q;
+        q.equal = r.equal.wrapping_add(1);
+        return Ok(q);
     }
-    q.different = wrapping_add_u64(r.different, 1);
-    say(line);
-    say(b" differs\n");
-    q
+    q.different = r.different.wrapping_add(1);
+    rt.write_all(line)?;
+    rt.write_all(b" differs\n")?;
+    Ok(q)
 }
 
 // The number of a call, and 0 for a name that is none. (The names are read as the fields of a line are: a number is in hex.)
@@ -91,7 +81,7 @@ fn call_of(line: &[u8]) -> u32 {
 }
 
 // The records that are told become the bench, whatever the call made of it: a difference is told once.
-fn on_bench(r: Run, call: u32, line: &[u8]) -> Run {
+fn on_bench(rt: &impl Print, r: Run, call: u32, line: &[u8]) -> io::Result<Run> {
     let bench = r.bench;
     let mut told = r.told;
     told.last = number(line, b"last");
@@ -99,82 +89,69 @@ fn on_bench(r: Run, call: u32, line: &[u8]) -> Run {
     q.bench = told;
     q.told = told;
     if call == 0x41 {
-        return q;
+        return Ok(q);
     }
-    counted(q, benches::right(call, bench, told, line), line)
+    counted(rt, q, benches::right(call, bench, told, line), line)
 }
 
 // A record that the bench does not have is a difference.
-fn recorded(r: Run, line: &[u8]) -> Run {
+fn recorded(rt: &impl Print, r: Run, line: &[u8]) -> io::Result<Run> {
     if LANES <= number(line, b"lane") as usize {
-        return counted(r, false, line);
+        return counted(rt, r, false, line);
     }
     let told = benches::told(r.told, line);
     let mut q = r;
     q.told = told;
-    q
+    Ok(q)
 }
 
-fn judged(r: Run, line: &[u8]) -> Run {
+fn judged(rt: &impl Print, r: Run, line: &[u8]) -> io::Result<Run> {
     let call = call_of(line);
     match call {
-        0x31..=0x41 => on_bench(r, call, line),
-        0x42 => recorded(r, line),
-        0x51 => r,
-        0x52 => headed(r, line),
-        0x61..=0x65 => counted(r, macs::right(call, line), line),
-        0x71..=0x72 => counted(r, streams::right(call, line), line),
-        0x81..=0x84 => counted(r, gift64s::right(call, line), line),
-        0x91..=0x95 => counted(r, bundles::right(call, line), line),
-        _ => counted(r, cipher::right(call, line), line),
+        0x31..=0x41 => on_bench(rt, r, call, line),
+        0x42 => recorded(rt, r, line),
+        0x51 => Ok(r),
+        0x52 => headed(rt, r, line),
+        0x61..=0x65 => counted(rt, r, macs::right(call, line), line),
+        0x71..=0x72 => counted(rt, r, streams::right(call, line), line),
+        0x81..=0x84 => counted(rt, r, gift64s::right(call, line), line),
+        0x91..=0x95 => counted(rt, r, bundles::right(call, line), line),
+        _ => counted(rt, r, cipher::right(call, line), line),
     }
 }
 
-// The first line of a text. One that is too long is cut, and what is left of it is no call.
-fn first_judged(r: Run, text: &[u8]) -> Run {
-    let e = find(text, 0, text.len(), b'\n');
-    let mut q = r;
-    q.at = wrapping_add_u64(r.at, e as u64 + 1);
-    judged(q, &text[0..e])
-}
-
-// At the end of the input nothing is read, and the run stays as it is.
-fn step(r: Run) -> Run {
-    let mut text = [0u8; LINE];
-    let got = libc::pread(STDIN_FILENO, &mut text, (r.at % 9223372036854775808) as i64);
-    let n = io::count(got, &text);
-    if n == 0 {
-        return r;
-    }
-    first_judged(r, &text[..n])
-}
-
-// A proved loop has to end, and nothing says that the input does: it counts down from a number that no run uses up.
-fn replayed(start: Run) -> Run {
+// Judges each line of an input. One that is too long is cut: the byte after the cut is passed over, and what is left of the line is no call.
+fn replayed<R: Read + Drop>(rt: &impl Print, start: Run, input: R) -> io::Result<Run> {
     let mut r = start;
-    let mut turns = u64::MAX;
-    while 0 < turns {
-        let q = step(r);
-        if q.at == r.at {
-            return r;
+    let mut line = [0u8; LINE];
+    let mut n = 0;
+    for byte in input.bytes() {
+        let byte = byte?;
+        if byte == b'\n' || n == LINE {
+            r = judged(rt, r, &line[..n])?;
+            n = 0;
+        } else {
+            line[n] = byte;
+            n += 1;
         }
-        r = q;
-        turns -= 1;
     }
-    r
+    if n == 0 {
+        return Ok(r);
+    }
+    judged(rt, r, &line[..n])
 }
 
-fn main() {
+fn main(rt: HostRuntime) -> io::Result<()> {
+    let input = BufReader::new(rt.alloc(), rt.reader())?;
     let bench = bench::fresh();
-    let r = replayed(Run {
-        at: 0,
+    let start = Run {
         equal: 0,
         different: 0,
         before: 0,
         bench,
         told: bench,
-    });
-    closed(r);
-    say_count(r.equal, b" cases equal, ");
-    say_count(r.different, b" different\n");
+    };
+    let r = replayed(&rt, start, input)?;
+    closed(&rt, r)?;
+    println!(rt; "{} cases equal, {} different", r.equal, r.different)
 }

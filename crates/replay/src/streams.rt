@@ -50,7 +50,7 @@ fn started(line: &[u8]) -> bool {
 fn fed(line: &[u8]) -> bool {
     let z = lent(line);
     let mut buffer = z.bytes;
-    let n = io::count((z.n % BYTES) as isize, &buffer);
+    let n = z.n % BYTES;
     let i = field(line, b"input");
     let input = i.bytes;
     let f = counter::piece(stream(line), front(&input, i.n), &mut buffer[..n]);

@@ -6,8 +6,6 @@
 // fields of each call.
 ghost use Rattle.std.specs.Prelude.{◌≤◌, length};
 
-use bytes::scan::find;
-use check::same;
 use primitives::State;
 
 // How long a field can be; its last word is kept free.
@@ -35,6 +33,19 @@ struct At {
     word: u32,
 }
 
+// Where a byte first stands from one place of a text on and before another; that other place if it does not.
+pub(crate) fn find(text: &[u8], from: usize, to: usize, byte: u8) -> usize
+    requires low { from ≤ to }
+    requires high { to ≤ length text.now }
+    ensures low { from ≤ result }
+    ensures high { result ≤ to }
+{
+    match text[from..to].iter().position(|b| *b == byte) {
+        Some(i) => from + i,
+        None => to,
+    }
+}
+
 // Where the name of a field ends, and its digits follow; the end of the line if it has no such field.
 fn place(line: &[u8], name: &[u8]) -> usize
     ensures { result ≤ length line.now }
@@ -43,7 +54,7 @@ fn place(line: &[u8], name: &[u8]) -> usize
     while at < line.len() {
         let e = find(line, at, line.len(), b' ');
         let q = find(line, at, e, b'=');
-        if same(&line[at..q], name) {
+        if &line[at..q] == name {
             return q;
         }
         at = e + 1;
@@ -74,11 +85,9 @@ fn read(text: &[u8]) -> Part {
     let mut bytes = [0u8; BYTES];
     let mut words = [0u32; WORDS];
     let mut p = At { digits: 0, word: 0 };
-    let mut i = 0;
-    while i < text.len() {
-        p = more(p, text[i]);
+    for c in text {
+        p = more(p, *c);
         put(p, &mut bytes, &mut words);
-        i += 1;
     }
     let d = p.digits % DIGITS;
     Part {
@@ -186,17 +195,7 @@ pub(crate) fn number(line: &[u8], name: &[u8]) -> u32 {
 }
 
 pub(crate) fn same_words(a: &[u32], b: &[u32]) -> bool {
-    if a.len() != b.len() {
-        return false;
-    }
-    let mut i = 0;
-    while i < a.len() {
-        if a[i] != b[i] {
-            return false;
-        }
-        i += 1;
-    }
-    true
+    a == b
 }
 
 // Whether a field has these words, and no more.
@@ -217,7 +216,7 @@ pub(crate) fn says_number(line: &[u8], code: u32) -> bool {
 pub(crate) fn says_bytes(line: &[u8], name: &[u8], got: &[u8]) -> bool {
     let p = field(line, name);
     let bytes = p.bytes;
-    same(front(&bytes, p.n), got)
+    front(&bytes, p.n) == got
 }
 
 // Whether these bytes are what was lent, afterwards.
