@@ -1,4 +1,4 @@
-/* GIFT-128 and GIFT-64 for hosts: the functions of libgift_host.a, which `rt staticlib gift_host` writes for x86-64 Linux.
+/* GIFT-128 and GIFT-64 for hosts: the functions of libgift_host.a, which `tools/built library` writes for x86-64 Linux.
  *
  * Every function is proved to answer as said here for all lengths, numbers, bytes and records. There is nothing to set up
  * or tear down, and nothing is kept between calls: all memory is the host's, and is lent for the length of one call. Calls

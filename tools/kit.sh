@@ -63,9 +63,10 @@ proving() {
 }
 
 # prove_program NAME LOG CRATE: proves and builds a program, which is then target/bin/CRATE; ends the script NAME with status 1 if something is not proved.
-# The kit builds a program only to run it, so it is run once, in an empty folder's place and with no input; what it says there counts for nothing.
+# The kit builds a program only to run it, so it is run once, in its crate's folder and with no input; what it says there counts for nothing.
 prove_program() {
     proving "$1" "$2" check "$3"
+    rm -f "crates/$3/out/$3"
     (cd "crates/$3" && rt run </dev/null >/dev/null 2>&1)
     mkdir -p target/bin
     cp "crates/$3/out/$3" "target/bin/$3" || { echo "$1: $3 is not built" >&2; exit 1; }

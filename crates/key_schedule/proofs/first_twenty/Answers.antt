@@ -11,7 +11,6 @@ use Rattle.key_schedule.specs.InnerTens.{five_rounds, five_later}
 use Rattle.key_schedule.proofs.Halves.{low-joined, high-joined}
 use Rattle.key_schedule.proofs.Updates.{updated-lt}
 use Rattle.key_schedule.proofs.TenWords.{same_twenty}
-use Rattle.key_schedule.proofs.first_twenty.Goals.{Start}
 use Rattle.key_schedule.proofs.first_twenty.Goals as goal
 
 record Side (x a b : ℕ) : Type 0 where
@@ -43,16 +42,13 @@ module _ {x y a b p q : ℕ} (s : Side x a b) (t : Side y p q) where
   upper-lower : {r : ℕ} → r ≡ joined (high_of x) (low_of y) → Side r b p
   upper-lower e = record { is = e ∙ ap₂ joined (high_is s) (low_is t); low_fits = s.high_fits; high_fits = t.low_fits }
 
-small : (c : Start) → (c.args.w.v0 < 2 ^ 32) × (c.args.w.u0 < 2 ^ 32) × (c.args.w.v1 < 2 ^ 32) × (c.args.w.u1 < 2 ^ 32)
-small c = search rules
-
 pub returns : goal.returns
 unfolding five_rounds five_later
 returns c =
-    -- cN: the place N things back
     let w : Four = c.args.w in
-    let x : Side _ w.v0 w.v1 = record { is = c.join-x.ensures; low_fits = (small c.before.before.before.before.before.before.before.before.before.before.before.before.before.before.before.before.before.before.before.before.before).0; high_fits = (small c.before.before.before.before.before.before.before.before.before.before.before.before.before.before.before.before.before.before.before.before.before).2 } in
-    let y : Side _ w.u0 w.u1 = record { is = c.join-y.ensures; low_fits = (small c.before.before.before.before.before.before.before.before.before.before.before.before.before.before.before.before.before.before.before.before.before).1; high_fits = (small c.before.before.before.before.before.before.before.before.before.before.before.before.before.before.before.before.before.before.before.before.before).3 } in
+    let small : (w.v0 < 2 ^ 32) × (w.u0 < 2 ^ 32) × (w.v1 < 2 ^ 32) × (w.u1 < 2 ^ 32) = search rules in
+    let x : Side _ w.v0 w.v1 = record { is = c.join-x.ensures; low_fits = small.0; high_fits = small.2 } in
+    let y : Side _ w.u0 w.u1 = record { is = c.join-y.ensures; low_fits = small.1; high_fits = small.3 } in
     let x1 = renewed x c.update_both-x1.ensures in
     let y1 = renewed y c.update_both-y1.ensures in
     let x2 = renewed x1 c.update_both-x2.ensures in

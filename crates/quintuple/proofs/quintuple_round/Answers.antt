@@ -20,7 +20,6 @@ read_part-p-requires c = let a = c.args in
 
 pub returns : goal.returns
 returns c =
-    -- cN: the place N things back
     let a = c.args in
     let ws : List ℕ = a.rkey.now in
     let i : ℕ = a.i in

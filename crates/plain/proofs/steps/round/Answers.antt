@@ -27,6 +27,6 @@ add_round_key-requires c =
 pub add_constant-requires : goal.add_constant-requires
 add_constant-requires c =
     let after_1 : Nibbles c.sub_cells.new.s = again c.args.s.now _ c.sub_cells.ensures c.requires.0 in
-    let after_2 : Nibbles c.perm_bits.new.s = again c.sub_cells.new.s _ c.perm_bits.ensures after_1 in
-    let after_3 : Nibbles c.add_round_key.new.s = again c.perm_bits.new.s _ c.add_round_key.ensures after_2 in
+    let moved : Nibbles c.perm_bits.new.s = again c.sub_cells.new.s _ c.perm_bits.ensures after_1 in
+    let after_3 : Nibbles c.add_round_key.new.s = again c.perm_bits.new.s _ c.add_round_key.ensures moved in
     after_3
