@@ -1,11 +1,9 @@
 -- A search among the lent records for a running lane: what is known of it as far as it has come, and at its end.
 use mathlib.Core.Path.{◌≡◌, sym, ◌∙◌}
-use mathlib.Core.Bool.{Bool, true, false, cond}
 use mathlib.Core.List.{List}
-use Prim.Native.Nat.{ℕ, ◌-◌, ◌≤◌, ◌<◌}
+use Prim.Native.Nat.{ℕ, ◌-◌, ◌<◌}
 use native.Mathlib.Decide.{ℕ_discrete, dec_lt}
 use native.Mathlib.Omega.{arith}
-use lib.Dec.{eqb}
 use borrow.Author.Tests.{eq-eqb, ne_eqb, lt-ltb, le-ltb}
 use Rattle.lane.specs.declared.Lane.{Lane}
 use Rattle.lane.specs.Record.{running}
@@ -25,17 +23,6 @@ module _ (ls : List Lane) (from : ℕ) where
   seeks-start p e f h = going (omega (arith, e)) (rw f some_lane) (rw (e, f))
 
   module _ (p : Place) (more : 0 < p.left) where
-    pub seeks_in : Seeks p → p.at < lane_count
-    seeks_in (going h _ _) = h
-    seeks_in (over none _) = absurd (omega arith)
-
-    pub seeks-less : (l : Lane) (r : Place) → Passes p l r → r.left < p.left
-    seeks-less l r e = rw e.1 (less (eqb l.phase running))
-      where
-        less : (t : Bool) → cond t 0 (p.left - 1) < p.left
-        less true = more
-        less false = omega arith
-
     pub seeks_on : (r : Place) → Seeks p → Passes p (lane_at ls p.at) r → Seeks r
     seeks_on r (going h some is) e =
         elim (ℕ_discrete (lane_at ls p.at).phase running) [
@@ -56,7 +43,3 @@ module _ (ls : List Lane) (from : ℕ) where
               ]
         ]
     seeks_on r (over none _) e = absurd (omega arith)
-
-  pub seeks-end : (p : Place) → p.left ≤ 0 → Seeks p → p.at ≡ seek lane_count ls from
-  seeks-end p none (going _ some _) = absurd (omega arith)
-  seeks-end p none (over _ is) = is

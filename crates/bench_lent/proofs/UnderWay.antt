@@ -1,11 +1,10 @@
 -- A call for turns over lent records: what is known of it as far as it has come, and at its end.
 use mathlib.Core.Path.{◌≡◌, refl, sym, ap, ◌∙◌}
-use mathlib.Core.Bool.{Bool, true, false, cond}
+use mathlib.Core.Bool.{Bool}
 use mathlib.Core.List.{List}
 use Prim.Native.Nat.{ℕ, ◌+◌, ◌-◌, ◌≤◌, ◌<◌}
 use native.Mathlib.Decide.{ℕ_discrete, dec_lt}
 use native.Mathlib.Omega.{arith}
-use lib.Dec.{ltb}
 use lib.ListN.{length, length-set}
 use borrow.Author.Tests.{lt-ltb, le-ltb}
 use Rattle.answers.proofs.Outcome.{if_done_lem, if_refused}
@@ -54,21 +53,6 @@ module _ (ls : List Lane) (last asked : ℕ) where
       ]
 
   module _ (zs : List Lane) (r : Run) (more : 0 < r.left) where
-    pub way-size : Way zs r → length zs ≡ lane_count
-    way-size (going _ _ size _ _) = size
-    way-size (over none _) = absurd (omega arith)
-
-    pub way-count : Way zs r → r.told.made + r.left ≡ asked
-    way-count (going _ _ _ sum _) = sum
-    way-count (over none _) = absurd (omega arith)
-
-    pub way-less : (n : ℕ) (r' : Run) → Goes r n r' → r'.left < r.left
-    way-less n r' e = rw e.1 (less (ltb n lane_count))
-      where
-        less : (t : Bool) → cond t (r.left - 1) 0 < r.left
-        less true = omega arith
-        less false = more
-
     pub way_on : (n : ℕ) (ws : List Lane) (r' : Run) → Way zs r → n ≡ chosen (bench_of zs r.told.last) → ws ≡ (turned (bench_of zs r.told.last)).lanes → Goes r n r' → Way ws r'
     way_on n ws r' (going z code size sum rest) c t e =
         elim (dec_lt n lane_count) [

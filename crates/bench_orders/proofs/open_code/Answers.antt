@@ -34,12 +34,13 @@ returns-then-direction c =
 pub returns-then-order-gt-WORDS : goal.returns-then-order-gt-WORDS
 unfolding open_code lane_count
 returns-then-order-gt-WORDS c =
+    let known = le-leb _ 1 c.if-direction.false in
     rw (
       c.if-not-sound.false,
       lt-ltb _ lane_count c.if-lane-ge-LANES.false,
       c.if-phase-ne-IDLE.false,
       ne_eqb _ 0 c.if-owner-eq0.false,
-      le-leb _ 1 c.if-direction.false,
+      known,
       lt-leb _ 1 c.if-order-gt-WORDS.true,
     )
 

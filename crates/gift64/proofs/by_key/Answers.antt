@@ -16,7 +16,7 @@ returns c =
     let block : List ℕ = a.block.now in
     let ws : List ℕ = c.expand-words.result in
     done c.key_code-code.ensures c.if-code-ne-DONE.false
-    (crossing a.back ws c.packing_64-s.result c.through-t.result block block _ (passed).1 (λ i. (c.slice_known-1.given i).fits) (passed).1
+    (crossing a.back ws c.packing_64-s.result c.through-t.result block block _ passed.1 (λ i. (c.slice_known-1.given i).fits) passed.1
     c.packing_64-s.ensures c.through-t.ensures c.unpacking_64.ensures
     ∙ crossed-key a.back key ws block c.expand-words.ensures)
 
@@ -26,4 +26,4 @@ returns-then-code-ne-DONE c = refuses c.key_code-code.ensures c.if-code-ne-DONE.
 pub expand-words-requires : goal.expand-words-requires
 expand-words-requires c =
     let passed : (length c.args.key.now ≡ 16) × (length c.args.block.now ≡ 8) = key_passed_64 _ _ (sym c.key_code-code.ensures ∙ c.if-code-ne-DONE.false) in
-    (passed).0
+    passed.0

@@ -15,7 +15,7 @@ all-requires c =
     let passed : (length c.args.key.now ≡ 16)
     × (length c.args.input.now % 8 ≡ 0)
     × (length c.args.output.now ≡ length c.args.input.now) = many-passed 8 _ _ _ (sym c.many_code-code.ensures ∙ c.if-code-ne-DONE.false) in
-    record { words_len = search rules; input_len = (passed).1; output_len = (passed).2 }
+    record { words_len = search rules; input_len = passed.1; output_len = passed.2 }
 
 pub returns : goal.returns
 returns c =
@@ -32,4 +32,4 @@ expand-words-requires c =
     let passed : (length c.args.key.now ≡ 16)
     × (length c.args.input.now % 8 ≡ 0)
     × (length c.args.output.now ≡ length c.args.input.now) = many-passed 8 _ _ _ (sym c.many_code-code.ensures ∙ c.if-code-ne-DONE.false) in
-    (passed).0
+    passed.0
