@@ -13,6 +13,7 @@ use Rattle.cmac.proofs.feed.Goals as goal
 held-length : (count : ℕ) (held : List ℕ) → length held ≡ 16 → count ≤ 16 → length (take count held) ≡ count
 held-length count held len h = length-take-le count held (omega arith)
 
+-- the block that was filled, and the rest
 filled : (count : ℕ) (held bytes : List ℕ) → length held ≡ 16 → count ≤ 16 → 16 - count < length bytes
     → length (take count held ++ take (16 - count) bytes) ≡ 16
 filled count held bytes len h more =

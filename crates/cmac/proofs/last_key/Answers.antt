@@ -11,6 +11,7 @@ use Rattle.cmac_parts.proofs.Subkeys.{doubled_is}
 use Rattle.cmac.proofs.LastBlock.{length-zero_block}
 use Rattle.cmac.proofs.last_key.Goals as goal
 
+-- K1, as made from a block of zeros
 first_key : (ws block e k : List ℕ) → block ≡ zero_block → e ≡ encrypted_by ws block → k ≡ subkey e → k ≡ K1 (encrypted_by ws)
 unfolding K1
 first_key ws block e k z made key = key ∙ ap subkey (made ∙ ap (encrypted_by ws) z)

@@ -23,6 +23,7 @@ inside x y z e h = omega arith
 sub-le : (a b : ℕ) → a - b ≤ a
 sub-le a b = omega arith
 
+-- the last 64 bytes of n
 last-part : (l : List ℕ) (n : ℕ) → length l ≡ n → 64 ≤ n → length (take (length l - (n - 64)) (drop (n - 64) l)) ≡ 64
 last-part l n e h = simp (length-take, length-drop) (omega arith)
 

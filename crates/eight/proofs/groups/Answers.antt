@@ -19,6 +19,7 @@ use Rattle.eight.proofs.Answers.{grouped}
 use Rattle.eight.proofs.Parts.{part_more}
 use Rattle.eight.proofs.groups.Goals as goal
 
+-- a group of w bytes at place a of n, and what it leaves
 record Fits (n a w : ℕ) : Type 0 where
   whole : w % 16 ≡ 0
   four : 64 ≤ w
@@ -95,22 +96,22 @@ pub overflow_add-e : goal.overflow_add-e
 overflow_add-e c =
     let here : Fits (length c.args.input.now) c.loop-a.a c.width.result = let q = c.loop-a in
     fits _ q.a c.width.result c.width.ensures q.invariant.2 q.invariant.4 (q.invariant.6 c.loop-a-test.true) in
-    omega (arith, (here).inside)
+    omega (arith, here.inside)
 
 pub slice_bounds-group-end : goal.slice_bounds-group-end
 slice_bounds-group-end c =
     let here : Fits (length c.args.input.now) c.loop-a.a c.width.result = let q = c.loop-a in
     fits _ q.a c.width.result c.width.ensures q.invariant.2 q.invariant.4 (q.invariant.6 c.loop-a-test.true) in
-    omega (arith, (here).inside)
+    omega (arith, here.inside)
 
 pub slice_bounds-group-end-in-loop-a : goal.slice_bounds-group-end-in-loop-a
 slice_bounds-group-end-in-loop-a c =
     let here : Fits (length c.args.input.now) c.loop-a.a c.width.result = let q = c.loop-a in
     fits _ q.a c.width.result c.width.ensures q.invariant.2 q.invariant.4 (q.invariant.6 c.loop-a-test.true) in
-    omega (arith, (here).inside)
+    omega (arith, here.inside)
 
 pub loop-a-smaller : goal.loop-a-smaller
 loop-a-smaller c =
     let here : Fits (length c.args.input.now) c.loop-a.a c.width.result = let q = c.loop-a in
     fits _ q.a c.width.result c.width.ensures q.invariant.2 q.invariant.4 (q.invariant.6 c.loop-a-test.true) in
-    omega (arith, (here).four, (here).inside)
+    omega (arith, here.four, here.inside)

@@ -10,6 +10,7 @@ use Rattle.gift64.proofs.by_key.Goals as goal
 
 pub returns : goal.returns
 returns c =
+    -- past the refusals the key has 16 bytes and the block 8
     let passed : (length c.args.key.now ≡ 16) × (length c.args.block.now ≡ 8) = key_passed_64 _ _ (sym c.key_code-code.ensures ∙ c.if-code-ne-DONE.false) in
     let a = c.args in
     let key : List ℕ = a.key.now in

@@ -12,6 +12,7 @@ use Rattle.gift64.proofs.many_by_key.Goals as goal
 
 pub all-requires : goal.all-requires
 all-requires c =
+    -- past the refusals the key has 16 bytes, the input whole blocks, and the output as many bytes
     let passed : (length c.args.key.now ≡ 16)
     × (length c.args.input.now % 8 ≡ 0)
     × (length c.args.output.now ≡ length c.args.input.now) = many-passed 8 _ _ _ (sym c.many_code-code.ensures ∙ c.if-code-ne-DONE.false) in

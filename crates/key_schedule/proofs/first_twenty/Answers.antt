@@ -13,6 +13,7 @@ use Rattle.key_schedule.proofs.Updates.{updated-lt}
 use Rattle.key_schedule.proofs.TenWords.{same_twenty}
 use Rattle.key_schedule.proofs.first_twenty.Goals as goal
 
+-- x is the words a and b side by side
 record Side (x a b : ℕ) : Type 0 where
   is : x ≡ joined a b
   low_fits : a < 2 ^ 32

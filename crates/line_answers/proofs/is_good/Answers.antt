@@ -15,6 +15,7 @@ returns-then-line-ne67 c = rw (ne_eqb _ 67 c.if-line-ne67.true)
 pub returns-then-not-is_letter : goal.returns-then-not-is_letter
 unfolding is_good
 returns-then-not-is_letter c =
+    -- past the first test there are 67 bytes
     let long : length c.args.line.now ≡ 67 = omega arith in
     rw (eq-eqb _ _ long, sym c.is_letter.ensures ∙ c.if-not-is_letter.true)
 

@@ -21,6 +21,7 @@ encrypt-requires t c =
     let s : List ℕ = a.s.now in
     let n : ℕ = length s in
     let ok = c.requires.nibbles in
+    -- a round more is one of this member's
     let some : a.r < count_of n = rw c.rounds_of.ensures at c.if-r-rounds_of.true in
     let same = same_length s _ c.round.ensures in
     let more : a.r + 1 ≤ count_of n = omega (arith, some) in (

@@ -13,6 +13,7 @@ use Rattle.plain.proofs.decrypt_64_by_key.Goals as goal
 
 pub cross-requires : goal.cross-requires
 cross-requires c =
+    -- past the refusals the key has 16 bytes and the block 8
     let passed : (length c.args.key.now ≡ 16) × (length c.args.block.now ≡ 8) = key_passed_64 _ _ (sym c.key_code_64-code.ensures ∙ c.if-code-ne-DONE.false) in
     record { key_len = passed.0; s_len = (omega (arith, passed.1), omega (arith, passed.1), omega (arith, passed.1), omega (arith, passed.1)) }
 

@@ -13,6 +13,7 @@ use Rattle.plain.proofs.encrypt_by_key.Goals as goal
 
 pub cross-requires : goal.cross-requires
 cross-requires c =
+    -- past the refusals the key has 16 bytes and the block 16
     let passed : (length c.args.key.now ≡ 16) × (length c.args.block.now ≡ 16) = key-passed _ _ (sym c.key_code-code.ensures ∙ c.if-code-ne-DONE.false) in
     record { key_len = passed.0; s_len = (omega (arith, passed.1), omega (arith, passed.1), omega (arith, passed.1), omega (arith, passed.1)) }
 

@@ -20,6 +20,7 @@ returns c =
 
 pub overflow_cast-k : goal.overflow_cast-k
 overflow_cast-k c =
+    -- the two bytes are bytes
     let high : get_or c.args.key.now (2 * c.loop-i.i) 0 < 256 = (c.shared_slice_known-1.given (2 * c.loop-i.i)).fits in
     omega (arith, high)
 

@@ -14,6 +14,7 @@ use Rattle.plain_key.specs.Inner.{key_of}
 use Rattle.plain_key.proofs.Keys.{u_is, small_u_is}
 use Rattle.plain_key.proofs.u_of.Goals as goal
 
+-- which of the two, by the number of nibbles
 picked : List ℕ → Bool → ℕ
 picked k t = (cond t (pair_of64 (key_of k)) (pair_of (key_of k))).u
 

@@ -11,6 +11,7 @@ use Rattle.round_words.specs.Arranged.{N, nibble_at, arranged, constant_word}
 use Rattle.quintuple.proofs.Table.{five_from}
 use Rattle.quintuple.proofs.constants.Goals as goal
 
+-- a place that is not this one lies five further
 further : (i a : ℕ) → i % 5 ≡ 0 → a % 5 ≡ 0 → a ≤ i → i ≢ a → a + 5 ≤ i
 further i a hi ha h n = omega arith
 

@@ -10,6 +10,7 @@ use Rattle.quintuple.specs.Boxes.{boxed}
 use Rattle.quintuple.proofs.Columns.{through_table}
 use Rattle.quintuple.proofs.inv_sbox.Goals as goal
 
+-- the words as the code makes them, a step a line
 abbrev a2 : W
 a2 = xor (var 2) (and (var 3) (var 1))
 

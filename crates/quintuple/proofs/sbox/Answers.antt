@@ -10,6 +10,7 @@ use Rattle.quintuple.specs.Boxes.{boxed}
 use Rattle.quintuple.proofs.Columns.{through_table}
 use Rattle.quintuple.proofs.sbox.Goals as goal
 
+-- the words as the code makes them, a step a line
 abbrev a1 : W
 a1 = xor (var 1) (and (var 0) (var 2))
 

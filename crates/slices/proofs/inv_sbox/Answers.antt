@@ -6,6 +6,7 @@ use Rattle.published.specs.Inner.{unentry}
 use Rattle.slices.proofs.Nibbles.{boxed_by}
 use Rattle.slices.proofs.inv_sbox.Goals as goal
 
+-- the words as the code makes them, a step a line
 abbrev a2 : W
 a2 = xor (var 2) (and (var 3) (var 1))
 

@@ -6,6 +6,7 @@ use Rattle.published.specs.Rounds.{entry}
 use Rattle.slices.proofs.Nibbles.{boxed_by}
 use Rattle.slices.proofs.sbox.Goals as goal
 
+-- the words as the code makes them, a step a line
 abbrev a1 : W
 a1 = xor (var 1) (and (var 0) (var 2))
 

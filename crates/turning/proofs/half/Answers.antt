@@ -8,6 +8,7 @@ use Rattle.bits.specs.Digit.{bit}
 use Rattle.turning.proofs.Crossing.{eight}
 use Rattle.turning.proofs.half.Goals as goal
 
+-- byte k of those eight
 byte_at : (l : List ℕ) (at k : ℕ) → k < 8
     → get_or (get_or l at 0 ∷ get_or l (at + 1) 0 ∷ get_or l (at + 2) 0 ∷ get_or l (at + 3) 0 ∷ get_or l (at + 4) 0 ∷ get_or l (at + 5) 0 ∷ get_or l (at + 6) 0 ∷ get_or l (at + 7) 0 ∷ []) k 0 ≡ get_or l (at + k) 0
 byte_at l at =

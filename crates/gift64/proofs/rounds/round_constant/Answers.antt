@@ -10,6 +10,7 @@ use Rattle.published.specs.Rounds.{step, constant}
 use Rattle.gift64.specs.Inner.{constant_word}
 use Rattle.gift64.proofs.rounds.round_constant.Goals as goal
 
+-- what the rule says of n rounds from round r on: for all 28 this computes to the table of the source, number for number
 abbrev ruled : ℕ → ℕ → List ℕ
 ruled zero r = []
 ruled (suc n) r = constant_word r ∷ ruled n (suc r)

@@ -18,6 +18,7 @@ xor_bit-requires c = record { nibbles = c.requires; q_bound = omega arith; b_bou
 
 pub loop-i-init : goal.loop-i-init
 loop-i-init c =
+    -- after the highest bit
     let flipped : Nibbles c.xor_bit.new.s = again c.args.s.now _ c.xor_bit.ensures c.requires in
     (omega arith, none_flipped c.xor_bit.new.s _ flipped.small (λ q h. none_below (constant_at c.args.c) q))
 

@@ -6,6 +6,7 @@ use Rattle.plain.proofs.Nibbles.{again}
 use Rattle.plain.proofs.Rounds.{round_made}
 use Rattle.plain.proofs.steps.round.Goals as goal
 
+-- entries of a table are nibbles
 pub sub_cells-requires : goal.sub_cells-requires
 sub_cells-requires c = (c.requires.0, bounded 16 16 _ tt)
 

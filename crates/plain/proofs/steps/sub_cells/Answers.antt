@@ -7,6 +7,7 @@ use Rattle.plain.proofs.Tables.{through_none, through_next, through_all}
 use Rattle.plain.proofs.steps.sub_cells.Goals.{In-loop-i}
 use Rattle.plain.proofs.steps.sub_cells.Goals as goal
 
+-- the nibble that is looked up is one
 index : (c : In-loop-i) → get_or c.loop-i.s c.loop-i.i 0 < 16
 index c = let l = c.loop-i in rw (l.invariant.1.rest l.i (omega arith)) (c.requires.0.small l.i)
 

@@ -6,6 +6,7 @@ use Rattle.plain.proofs.Nibbles.{again}
 use Rattle.plain.proofs.Rounds.{round-unmade}
 use Rattle.plain.proofs.steps.unround.Goals as goal
 
+-- entries of a table are nibbles
 pub sub_cells-requires : goal.sub_cells-requires
 sub_cells-requires c =
     let after_1 : Nibbles c.add_constant.new.s = again c.args.s.now _ c.add_constant.ensures c.requires.0 in
