@@ -1,3 +1,4 @@
 -- The laws, for the crates above.
 pub mod Passed
 pub mod Outcome
+pub mod NotDone

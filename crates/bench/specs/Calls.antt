@@ -1,5 +1,9 @@
 -- What each call promises to answer: its number, the turns told, and the bench that it leaves; of a take, the bytes too. A refusal gives back what came in.
 use Rattle.std.specs.Prelude.{List, ℕ, ◌-◌, min, length, set, replicate}
+use Rattle.std.specs.declared.result.Result.{Result}
+use Rattle.std.specs.declared.result.Result.TheVariants.{Ok, Err}
+use Rattle.answers.specs.declared.Refusal.{Refusal}
+use Rattle.answers.specs.Refusals.{number}
 use Rattle.answers.specs.Order.{if_done}
 use Rattle.lane.specs.declared.Lane.{Lane}
 use Rattle.lane.specs.Record.{admits, idle_lane}
@@ -8,7 +12,7 @@ use Rattle.bench_orders.specs.Orders.{lane_count, open_code, turn_code, take_cod
 use Rattle.bench_turns.specs.declared.Bench.{Bench}
 use Rattle.bench_turns.specs.Sound.{sound_bench}
 use Rattle.bench_turns.specs.Turning.{lane_at, turned_by, total}
-use Rattle.bench.specs.declared.Answer.{Answer}
+use Rattle.bench.specs.declared.Answer as source
 
 -- a fresh bench: all idle, all zero, the last lane the one last served
 unfoldable pub fresh_bench : Bench
@@ -17,6 +21,20 @@ fresh_bench = record { lanes = replicate lane_count idle_lane; last = lane_count
 -- a bench with another record in lane i
 unfoldable pub put : Bench → ℕ → Lane → Bench
 put b i l = record { lanes = set b.lanes i l; last = b.last }
+
+-- what a call answers: its number, the turns told, and the bench that it leaves
+pub record Answer : Type 0 where
+  pub code : ℕ
+  pub made : ℕ
+  pub bench : Bench
+
+-- the same of what the code gives back: the number of a refusal, or 0 and the turns made
+abbrev pub turns_told : Result ℕ Refusal → ℕ
+turns_told (Ok made) = made
+turns_told (Err refusal) = 0
+
+abbrev pub told : source.Answer → Answer
+told a = record { code = number a.made; made = turns_told a.made; bench = a.bench }
 
 -- the answer with this number: the turns and the bench of a call that is done, or else none and the bench as it was
 unfoldable pub answered : (number made : ℕ) (new old : Bench) → Answer

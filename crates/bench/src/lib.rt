@@ -1,58 +1,30 @@
-// Lanes that take turns on one cipher, by value: a call is given a bench and gives back the bench after it, with a number that is 0 if it was done.
+// Lanes that take turns on one cipher, by value: a call is given a bench and gives back the bench after it, with the turns made or why it was refused.
 #![tactic(auto)]
 
 ghost use Rattle.std.specs.Prelude.{◌≡◌, ◌<◌};
-ghost use Rattle.lane.specs.Record.{admits};
 ghost use Rattle.bench_orders.specs.Orders.{lane_count};
-ghost use Rattle.bench_turns.specs.Turning.{lane_at};
-ghost use Rattle.bench.specs.Calls.{fresh_bench, put, open_of, turn_of, take_of, taken_bytes, close_of};
+ghost use Rattle.bench.specs.Calls.{told, fresh_bench, put, open_of, turn_of, take_of, taken_bytes, close_of};
 
-use answers::DONE;
+use answers::Refusal;
 pub use bench_orders::LANES;
 use bench_orders::{close_code, open_code, take_code, turn_code};
 pub use bench_turns::Bench;
-use bench_turns::{sound, turns};
-use lane::{IDLE, Lane, admits, idle_lane};
+use bench_turns::{seen, sound, turns};
+use lane::{Lane, idle_lane};
 use lane_turns::{opened, yielded};
 
 const LAST: usize = LANES - 1;
 
-// What every call gives back: its number, the turns made, and the bench after it. Only turns are made by a call for turns.
-#[repr(C)]
+// What every call gives back: the turns made, which only a call for turns makes, or its refusal; and the bench after it.
+// Stays: the bench stands beside the result, a rule of the project: after a refusal, too, the bench returned is the bench given (document 01).
 #[derive(Clone, Copy)]
 pub struct Answer {
-    pub code: u32,
-    pub made: u32,
+    pub made: Result<u32, Refusal>,
     pub bench: Bench,
 }
 
-// ---- a lane by its number
-
-// Its phase; a number that is no lane's has none, and counts as idle.
-fn phase_at(b: Bench, lane: u32) -> u8
-    ensures { result ≡ (lane_at b.lanes lane).phase }
-{
-    let i = lane as usize;
-    if i < LANES {
-        let l = b.lanes[i];
-        return l.phase;
-    }
-    IDLE
-}
-
-// Whether it is open to a caller; a number that is no lane's counts as an idle one's.
-fn admits_at(b: Bench, lane: u32, caller: u16) -> bool
-    ensures { result ≡ admits (lane_at b.lanes lane) caller }
-{
-    let i = lane as usize;
-    if i < LANES {
-        let l = b.lanes[i];
-        return admits(l, caller);
-    }
-    true
-}
-
-// Another record put into it.
+// Another record put into a lane.
+#[tactic(auto, unfolding(crate::specs::Calls::put, bench_orders::specs::Orders::lane_count))]
 fn put(b: Bench, i: usize, l: Lane) -> Bench
     requires { i < lane_count }
     ensures { result ≡ put b i l }
@@ -65,11 +37,11 @@ fn put(b: Bench, i: usize, l: Lane) -> Bench
 // ---- the calls
 
 // All idle, all zero, the last lane the one last served.
+#[tactic(auto, unfolding(crate::specs::Calls::fresh_bench, bench_orders::specs::Orders::lane_count))]
 pub fn fresh() -> Bench
     ensures { result ≡ fresh_bench }
 {
-    let l = idle_lane();
-    let lanes = [l; LANES];
+    let lanes = [idle_lane(); LANES];
     Bench {
         lanes,
         last: LAST as u32,
@@ -85,94 +57,63 @@ pub fn open_lane(
     key: &[u8],
     block: &[u8],
 ) -> Answer
-    ensures { result ≡ open_of b lane owner direction order key.now block.now }
+    ensures { told result ≡ open_of b lane owner direction order key.now block.now }
 {
-    let code = open_code(
-        sound(b),
-        lane,
-        phase_at(b, lane),
-        owner,
-        direction,
-        order,
-        key.len(),
-        block.len(),
-    );
-    if code != DONE {
+    let seen = seen(&b.lanes, sound(b), lane, owner);
+    if let Err(refusal) = open_code(seen, lane, owner, direction, order, key.len(), block.len()) {
         return Answer {
-            code,
-            made: 0,
+            made: Err(refusal),
             bench: b,
         };
     }
     let l = opened(owner, direction as u8, order as u16, key, block);
     let bench = put(b, lane as usize, l);
-    Answer {
-        code,
-        made: 0,
-        bench,
-    }
+    Answer { made: Ok(0), bench }
 }
 
 pub fn turn(b: Bench, asked: u32) -> Answer
-    ensures { result ≡ turn_of b asked }
+    ensures { told result ≡ turn_of b asked }
 {
-    let code = turn_code(sound(b), asked);
-    if code != DONE {
+    if let Err(refusal) = turn_code(sound(b), asked) {
         return Answer {
-            code,
-            made: 0,
+            made: Err(refusal),
             bench: b,
         };
     }
     let many = turns(b, asked);
     let bench = many.bench;
     Answer {
-        code,
-        made: many.made,
+        made: Ok(many.made),
         bench,
     }
 }
 
 pub fn take(b: Bench, lane: u32, owner: u16, out: &mut [u8]) -> Answer
-    ensures { (result ≡ take_of b lane owner out.old) × (out.new ≡ taken_bytes b lane owner out.old) }
+    ensures { (told result ≡ take_of b lane owner out.old) × (out.new ≡ taken_bytes b lane owner out.old) }
 {
-    let admitted = admits_at(b, lane, owner);
-    let code = take_code(sound(b), lane, admitted, phase_at(b, lane), out.len());
-    if code != DONE {
-        // the buffer stays as it was
+    let seen = seen(&b.lanes, sound(b), lane, owner);
+    if let Err(refusal) = take_code(seen, lane, out.len()) {
         return Answer {
-            code,
-            made: 0,
+            made: Err(refusal),
             bench: b,
         };
     }
     let i = lane as usize;
-    let l = b.lanes[i];
-    yielded(l, out);
+    yielded(b.lanes[i], out);
     let bench = put(b, i, idle_lane());
-    Answer {
-        code,
-        made: 0,
-        bench,
-    }
+    Answer { made: Ok(0), bench }
 }
 
 pub fn close(b: Bench, lane: u32, owner: u16) -> Answer
-    ensures { result ≡ close_of b lane owner }
+    ensures { told result ≡ close_of b lane owner }
 {
-    let code = close_code(sound(b), lane, admits_at(b, lane, owner));
-    if code != DONE {
-        // the lane stays as it was
+    let seen = seen(&b.lanes, sound(b), lane, owner);
+    if let Err(refusal) = close_code(seen, lane) {
         return Answer {
-            code,
-            made: 0,
+            made: Err(refusal),
             bench: b,
         };
     }
     let bench = put(b, lane as usize, idle_lane());
-    Answer {
-        code,
-        made: 0,
-        bench,
-    }
+    Answer { made: Ok(0), bench }
 }

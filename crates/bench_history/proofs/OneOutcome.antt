@@ -4,8 +4,7 @@ use mathlib.Core.List.{List}
 use Prim.Native.Nat.{ℕ}
 use Rattle.answers.proofs.Outcome.{one_answer}
 use Rattle.bench_turns.specs.declared.Bench.{Bench}
-use Rattle.bench.specs.declared.Answer.{Answer}
-use Rattle.bench.specs.Calls.{open_of, turn_of, take_of, taken_bytes, close_of}
+use Rattle.bench.specs.Calls.{Answer, open_of, turn_of, take_of, taken_bytes, close_of}
 
 module _ (b : Bench) (lane owner direction order asked : ℕ) (key block out : List ℕ) where
   pub open_lane : (r r' : Answer) → r ≡ open_of b lane owner direction order key block → r' ≡ open_of b lane owner direction order key block → r ≡ r'

@@ -6,8 +6,7 @@ use Rattle.lane.specs.declared.Lane.{Lane}
 use Rattle.lane_turns.specs.Turns.{served}
 use Rattle.bench_turns.specs.declared.Bench.{Bench}
 use Rattle.bench_turns.specs.Turning.{served_by}
-use Rattle.bench.specs.declared.Answer.{Answer}
-use Rattle.bench.specs.Calls.{open_of, turn_of, take_of, close_of}
+use Rattle.bench.specs.Calls.{Answer, open_of, turn_of, take_of, close_of}
 
 pub data Call : Type 0 where
   opening : (lane owner direction order : ℕ) (key block : List ℕ) → Call

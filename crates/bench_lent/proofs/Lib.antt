@@ -1,7 +1,4 @@
 -- The laws.
-pub mod Looking
-pub mod Searching
-pub mod UnderWay
 pub mod Effects
 pub mod Answering
 pub mod OneOutcome

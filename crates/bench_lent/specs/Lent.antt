@@ -2,8 +2,7 @@
 use Rattle.std.specs.Prelude.{◌≡◌, List, ℕ}
 use Rattle.lane.specs.declared.Lane.{Lane}
 use Rattle.bench_turns.specs.declared.Bench.{Bench}
-use Rattle.bench.specs.declared.Answer.{Answer}
-use Rattle.bench.specs.Calls.{open_of, turn_of, take_of, taken_bytes, close_of}
+use Rattle.bench.specs.Calls.{Answer, open_of, turn_of, take_of, taken_bytes, close_of}
 use Rattle.bench_lent.specs.declared.Turns.{Turns}
 
 -- the bench of these records and this last served number

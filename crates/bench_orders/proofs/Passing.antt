@@ -6,10 +6,36 @@ use Prim.Native.Nat.{ℕ, ◌≤◌, ◌<◌}
 use lib.Dec.{eqb, leb, ltb}
 use borrow.Author.Tests.{eqb-true, eqb-false, leb-true, ltb-true, not-true}
 use Rattle.answers.specs.Numbers.{DONE, BAD_KEY_LENGTH, BAD_BLOCK_LENGTH, BAD_LANE, LANE_NOT_IDLE, LANE_NOT_FINISHED, TOO_MANY_TURNS, BAD_DIRECTION, BAD_BENCH, NOT_THE_OWNER, BAD_ORDER}
+use Rattle.answers.specs.declared.Refusal.{Refusal}
+use Rattle.answers.specs.declared.Refusal.TheVariants.{BadKeyLength, BadBlockLength, BadOutputLength, BadWordCount, BadLane, LaneNotIdle, LaneNotFinished, TooManyTurns, BadDirection, BadBench, BadState, NotTheOwner, TooFewCounters, BadOrder, BadBundleLength, BadTag, Malformed, MustKnow, BadList, ShortOutput}
+use Rattle.answers.specs.Refusals.{number_of}
 use Rattle.answers.proofs.Passed.{passed}
 use Rattle.published.specs.Seen.{is_order}
 use Rattle.lane.specs.Record.{idle, finished}
 use Rattle.bench_orders.specs.Orders.{lane_count, open_code, turn_code, take_code, close_code}
+
+-- no refusal has the number of a call that is done
+pub not_done : (refusal : Refusal) → number_of refusal ≢ 0
+not_done BadKeyLength = eqb-false 1 0 refl
+not_done BadBlockLength = eqb-false 2 0 refl
+not_done BadOutputLength = eqb-false 3 0 refl
+not_done BadWordCount = eqb-false 4 0 refl
+not_done BadLane = eqb-false 5 0 refl
+not_done LaneNotIdle = eqb-false 6 0 refl
+not_done LaneNotFinished = eqb-false 7 0 refl
+not_done TooManyTurns = eqb-false 8 0 refl
+not_done BadDirection = eqb-false 9 0 refl
+not_done BadBench = eqb-false 10 0 refl
+not_done BadState = eqb-false 10 0 refl
+not_done NotTheOwner = eqb-false 11 0 refl
+not_done TooFewCounters = eqb-false 12 0 refl
+not_done BadOrder = eqb-false 13 0 refl
+not_done BadBundleLength = eqb-false 20 0 refl
+not_done BadTag = eqb-false 21 0 refl
+not_done Malformed = eqb-false 22 0 refl
+not_done MustKnow = eqb-false 23 0 refl
+not_done BadList = eqb-false 24 0 refl
+not_done ShortOutput = eqb-false 25 0 refl
 
 pub record OpenPassed (sound : Bool) (lane phase owner direction order key block : ℕ) : Type 0 where
   pub is_sound : sound ≡ true

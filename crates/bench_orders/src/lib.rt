@@ -1,16 +1,14 @@
-// The number that each call gives: its refusals, tried in document 01's order, and nothing else. The bench by value and the lent bench both ask here.
+// The answer that each call gives: its refusals, tried in document 01's order, and nothing else. The bench by value and the lent bench both ask here.
 #![tactic(auto)]
 
 ghost use Rattle.std.specs.Prelude.{◌≡◌};
+ghost use Rattle.answers.specs.Refusals.{number};
 ghost use Rattle.bench_orders.specs.Orders.{open_code, turn_code, take_code, close_code};
 
-use answers::{
-    BAD_BENCH, BAD_BLOCK_LENGTH, BAD_DIRECTION, BAD_KEY_LENGTH, BAD_LANE, BAD_ORDER, DONE,
-    LANE_NOT_FINISHED, LANE_NOT_IDLE, NOT_THE_OWNER, TOO_MANY_TURNS,
-};
+use answers::Refusal;
 use gift128::Gift128;
-use lane::{DECRYPT, FINISHED, IDLE};
-use packing::WORDS;
+use lane::{Direction, Phase};
+use packing::Order;
 
 // How many lanes a bench has.
 pub const LANES: usize = 16;
@@ -18,93 +16,93 @@ pub const LANES: usize = 16;
 // How many turns one call may ask for.
 const MOST_TURNS: u32 = 1024;
 
+// What a look at a bench tells a call: whether the bench is sound, and of the lane that is named its phase and whether it is open to the caller.
+// Stays: the phase is the record's number and soundness stands beside it, as what may not change: `open_code` and `take_code` take any, of records that are not sound too.
+#[derive(Clone, Copy)]
+pub struct Seen {
+    pub sound: bool,
+    pub phase: u8,
+    pub admitted: bool,
+}
+
 // 10, 5, 6, 11, 9, 13, 1, 2.
+#[tactic(auto, unfolding(crate::specs::Orders::open_code, crate::specs::Orders::lane_count))]
 pub fn open_code(
-    sound: bool,
+    seen: Seen,
     lane: u32,
-    phase: u8,
     owner: u16,
     direction: u32,
     order: u32,
     key: usize,
     block: usize,
-) -> u32
-    ensures { result ≡ open_code sound lane phase owner direction order key block }
+) -> Result<(), Refusal>
+    ensures { number result ≡ open_code seen.sound lane seen.phase owner direction order key block }
 {
-    if !sound {
-        return BAD_BENCH;
+    if !seen.sound {
+        return Err(Refusal::BadBench);
     }
     if LANES <= (lane as usize) {
-        return BAD_LANE;
+        return Err(Refusal::BadLane);
     }
-    if phase != IDLE {
-        return LANE_NOT_IDLE;
+    if seen.phase != Phase::Idle as u8 {
+        return Err(Refusal::LaneNotIdle);
     }
     if owner == 0 {
-        return NOT_THE_OWNER;
+        return Err(Refusal::NotTheOwner);
     }
-    if (DECRYPT as u32) < direction {
-        return BAD_DIRECTION;
-    }
-    if WORDS < order {
-        return BAD_ORDER;
-    }
+    Direction::try_from(direction)?;
+    Order::try_from(order)?;
     if key != Gift128::KEY_SIZE {
-        return BAD_KEY_LENGTH;
+        return Err(Refusal::BadKeyLength);
     }
     if block != Gift128::BLOCK_SIZE {
-        return BAD_BLOCK_LENGTH;
+        return Err(Refusal::BadBlockLength);
     }
-    DONE
+    Ok(())
 }
 
 // 10, 8.
-pub fn turn_code(sound: bool, asked: u32) -> u32
-    ensures { result ≡ turn_code sound asked }
+#[tactic(auto, unfolding(crate::specs::Orders::turn_code))]
+pub fn turn_code(sound: bool, asked: u32) -> Result<(), Refusal>
+    ensures { number result ≡ turn_code sound asked }
 {
     if !sound {
-        return BAD_BENCH;
+        return Err(Refusal::BadBench);
     }
     if MOST_TURNS < asked {
-        return TOO_MANY_TURNS;
+        return Err(Refusal::TooManyTurns);
     }
-    DONE
+    Ok(())
 }
 
 // 10, 5, 11, 7, 2.
-pub fn take_code(sound: bool, lane: u32, admitted: bool, phase: u8, out: usize) -> u32
-    ensures { result ≡ take_code sound lane admitted phase out }
+#[tactic(auto, unfolding(crate::specs::Orders::take_code, crate::specs::Orders::close_code, crate::specs::Orders::lane_count))]
+pub fn take_code(seen: Seen, lane: u32, out: usize) -> Result<(), Refusal>
+    ensures { number result ≡ take_code seen.sound lane seen.admitted seen.phase out }
 {
-    if !sound {
-        return BAD_BENCH;
-    }
-    if LANES <= (lane as usize) {
-        return BAD_LANE;
-    }
-    if !admitted {
-        return NOT_THE_OWNER;
-    }
-    if phase != FINISHED {
-        return LANE_NOT_FINISHED;
+    close_code(seen, lane)?;
+    if seen.phase != Phase::Finished as u8 {
+        return Err(Refusal::LaneNotFinished);
     }
     if out != Gift128::BLOCK_SIZE {
-        return BAD_BLOCK_LENGTH;
+        return Err(Refusal::BadBlockLength);
     }
-    DONE
+    Ok(())
 }
 
 // 10, 5, 11.
-pub fn close_code(sound: bool, lane: u32, admitted: bool) -> u32
-    ensures { result ≡ close_code sound lane admitted }
+#[tactic(auto, unfolding(crate::specs::Orders::close_code, crate::specs::Orders::lane_count))]
+pub fn close_code(seen: Seen, lane: u32) -> Result<(), Refusal>
+    ensures { number result ≡ close_code seen.sound lane seen.admitted }
 {
-    if !sound {
-        return BAD_BENCH;
+    if !seen.sound {
+        return Err(Refusal::BadBench);
     }
     if LANES <= (lane as usize) {
-        return BAD_LANE;
+        return Err(Refusal::BadLane);
     }
-    if !admitted {
-        return NOT_THE_OWNER;
+    if !seen.admitted {
+        return Err(Refusal::NotTheOwner);
     }
-    DONE
+    Ok(())
 }

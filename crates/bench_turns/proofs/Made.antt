@@ -14,9 +14,9 @@ use Rattle.lane_turns.specs.Turns.{served, lacks}
 use Rattle.lane_turns.proofs.Serving.{served-count, served-lacks, served-sound}
 use Rattle.bench_orders.specs.Orders.{lane_count}
 use Rattle.bench_turns.specs.declared.Bench.{Bench}
-use Rattle.bench_turns.specs.Turning.{lane_at, runs, chosen, any_runs, turned, turned_by, served_by, total}
+use Rattle.bench_turns.specs.Turning.{lane_at, runs, after, seek, chosen, any_runs, turned, turned_by, served_by, total}
 use Rattle.bench_turns.proofs.Soundness.{Sound, sound-set}
-use Rattle.bench_turns.proofs.Seeking.{runs-phase, chosen-lt, chosen-runs, none_runs}
+use Rattle.bench_turns.proofs.Seeking.{runs-phase, chosen_is, chosen-lt, chosen-runs, none_runs}
 
 -- ---- sums over the lanes
 
@@ -37,6 +37,11 @@ module _ (b : Bench) where
   pub turned_none : any_runs b ≡ false → turned b ≡ b
   unfolding turned
   turned_none e = cond-false (any_runs b) _ b e
+
+  -- where a search that starts after the last served lane finds none, and where it finds one
+  pub none_found : {i : ℕ} → i ≡ after b.last → seek lane_count b.lanes i ≡ lane_count → any_runs b ≡ false
+  unfolding any_runs chosen
+  none_found e f = le-ltb (chosen b) lane_count (omega (arith, sym (ap (seek lane_count b.lanes) e) ∙ f))
 
   pub chosen_any : (n : ℕ) → n ≡ chosen b → n < lane_count → any_runs b ≡ true
   unfolding any_runs
@@ -78,6 +83,10 @@ module _ (b : Bench) where
 pub turned_at : (b : Bench) (n : ℕ) (l : Lane) → n ≡ chosen b → n < lane_count → l ≡ served (lane_at b.lanes n)
     → record { lanes = set b.lanes n l; last = n } ≡ turned b
 turned_at b n l e h f = rw (f, e) (sym (turned_is b (chosen_any b n e h)))
+
+pub one_found : (b : Bench) {i n : ℕ} {l : Lane} → i ≡ after b.last → n ≡ seek lane_count b.lanes i → n < lane_count → l ≡ served (lane_at b.lanes n)
+    → (any_runs b ≡ true) × (record { lanes = set b.lanes n l; last = n } ≡ turned b)
+one_found b {n = n} {l = l} e f h s = let is : n ≡ chosen b = chosen_is b e f in (chosen_any b n is h, turned_at b n l is h s)
 
 -- ---- n turns
 

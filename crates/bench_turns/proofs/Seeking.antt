@@ -9,7 +9,8 @@ use native.Mathlib.Numerals.{sub-one}
 use native.Mathlib.Decide.{dec_lt, dec_le}
 use native.Mathlib.Omega.{arith}
 use lib.Dec.{leb, ltb, lit<}
-use borrow.Author.Tests.{lt-ltb, le-ltb, le-leb, lt-leb, eq-eqb, ne_eqb, ltb-true, eqb-true}
+use lib.ListN.{length, get_or-eq_default}
+use borrow.Author.Tests.{lt-ltb, le-ltb, le-leb, lt-leb, eq-eqb, ltb-true, eqb-true, eqb-false}
 use Rattle.bits.proofs.Computed.{cond-true, cond-false}
 use Rattle.lane.specs.declared.Lane.{Lane}
 use Rattle.lane.specs.Record.{running}
@@ -78,16 +79,24 @@ pub runs-phase : (ls : List Lane) (n : ℕ) → runs ls n ≡ true → (lane_at 
 unfolding runs
 runs-phase ls n e = eqb-true (lane_at ls n).phase running e
 
+-- a lane that runs is one of the records: past the last, the list's own default is idle
+pub runs_inside : (ls : List Lane) (n : ℕ) → runs ls n ≡ true → n < length ls
+runs_inside ls n e =
+    elim (dec_lt n (length ls)) [
+      | yes h ↦ h
+      | no h ↦ absurd (eqb-false 1 0 refl (sym (runs-phase ls n e) ∙ ap (λ (l : Lane). l.phase) (get_or-eq_default ls _ (omega arith))))
+    ]
+
 -- one step of the search, and its end
-pub seek_here : (k : ℕ) (ls : List Lane) (i : ℕ) → 0 < k → (lane_at ls i).phase ≡ running → seek k ls i ≡ i
+pub seek_here : (k : ℕ) (ls : List Lane) (i : ℕ) → 0 < k → runs ls i ≡ true → seek k ls i ≡ i
 unfolding seek
 seek_here zero ls i some e = absurd (not-suc-le-zero some)
-seek_here (suc k) ls i some e = cond-true (runs ls i) i _ (phase-runs ls i e)
+seek_here (suc k) ls i some e = cond-true (runs ls i) i _ e
 
-pub seek_on : (k : ℕ) (ls : List Lane) (i : ℕ) → 0 < k → (lane_at ls i).phase ≢ running → seek k ls i ≡ seek (k - 1) ls (after i)
-unfolding seek runs
-seek_on zero ls i some ne = absurd (not-suc-le-zero some)
-seek_on (suc k) ls i some ne = cond-false (runs ls i) i _ (ne_eqb (lane_at ls i).phase running ne) ∙ ap (λ (j : ℕ). seek j ls (after i)) (sym (sub-one (suc k)))
+pub seek_on : (k : ℕ) (ls : List Lane) (i : ℕ) → 0 < k → runs ls i ≡ false → seek k ls i ≡ seek (k - 1) ls (after i)
+unfolding seek
+seek_on zero ls i some e = absurd (not-suc-le-zero some)
+seek_on (suc k) ls i some e = cond-false (runs ls i) i _ e ∙ ap (λ (j : ℕ). seek j ls (after i)) (sym (sub-one (suc k)))
 
 pub seek-over : (k : ℕ) (ls : List Lane) (i : ℕ) → k ≤ 0 → seek k ls i ≡ lane_count
 unfolding seek

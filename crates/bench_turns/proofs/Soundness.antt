@@ -37,7 +37,7 @@ all_of [] f = refl
 all_of (l ∷ ls) f = together (sound_lane l) (all_sound ls) (f 0 (omega arith)) (all_of ls (λ i h. f (suc i) (omega arith)))
 
 -- the records from place i on are sound where the one there is, and those after it
-pub all_from : (ls : List Lane) (i : ℕ) → i < length ls → all_sound (drop i ls) ≡ sound_lane (lane_at ls i) && all_sound (drop (i + 1) ls)
+all_from : (ls : List Lane) (i : ℕ) → i < length ls → all_sound (drop i ls) ≡ sound_lane (lane_at ls i) && all_sound (drop (i + 1) ls)
 unfolding all_sound
 all_from ls i h = ap all_sound (drop-cons ls i _ h) ∙ ap (λ (j : ℕ). sound_lane (lane_at ls i) && all_sound (drop j ls)) (sym (add-one i))
 

@@ -1,13 +1,13 @@
 // A bench: its lanes and the one last served, whether it is sound, and turns, each by the first running lane in cyclic order after the last served one.
 #![tactic(auto)]
 
-ghost use Rattle.std.specs.Prelude.{◌≡◌, ◌<◌, length};
+ghost use Rattle.std.specs.Prelude.{◌≡◌, ◌<◌, length, MatchOption, false, true};
 ghost use Rattle.bench_orders.specs.Orders.{lane_count};
-ghost use Rattle.bench_turns.specs.Turning.{after, seek, chosen, turned, turned_by, served_by};
-ghost use Rattle.bench_turns.specs.Sound.{all_sound, sound_bench};
+ghost use Rattle.bench_turns.specs.Turning.{runs, after, seek, chosen, turned, turned_by, served_by, any_runs};
+ghost use Rattle.bench_turns.specs.Sound.{all_sound, sound_bench, seen};
 
-use bench_orders::LANES;
-use lane::{Lane, RUNNING, sound_lane};
+use bench_orders::{LANES, Seen};
+use lane::{Lane, Phase, admits, sound_lane};
 use lane_turns::served;
 
 const LAST: usize = LANES - 1;
@@ -22,15 +22,14 @@ pub struct Bench {
 
 // ---- soundness
 
-fn all_sound(lanes: [Lane; LANES]) -> bool
-    ensures { result ≡ all_sound lanes }
+// Whether each record is sound.
+pub fn all_sound(lanes: &[Lane]) -> bool
+    ensures { result ≡ all_sound lanes.now }
 {
-    let mut i: usize = 0;
-    while i < LANES {
-        if !sound_lane(lanes[i]) {
+    for l in lanes {
+        if !sound_lane(*l) {
             return false;
         }
-        i += 1;
     }
     true
 }
@@ -38,62 +37,74 @@ fn all_sound(lanes: [Lane; LANES]) -> bool
 pub fn sound(b: Bench) -> bool
     ensures { result ≡ sound_bench b }
 {
-    let lanes = b.lanes;
-    if (b.last as usize) < LANES {
-        return all_sound(lanes);
+    (b.last as usize) < LANES && all_sound(&b.lanes)
+}
+
+// What a call is told of the lane that it names; a number that is no lane's has no phase, and counts as an idle one's.
+pub fn seen(lanes: &[Lane], sound: bool, lane: u32, caller: u16) -> Seen
+    ensures { result ≡ seen lanes.now sound lane caller }
+{
+    match lanes.get(lane as usize) {
+        Some(l) => Seen {
+            sound,
+            phase: l.phase,
+            admitted: admits(*l, caller),
+        },
+        None => Seen {
+            sound,
+            phase: Phase::Idle as u8,
+            admitted: true,
+        },
     }
-    false
 }
 
 // ---- turns
 
 // The lane after lane i in cyclic order.
+#[tactic(auto, unfolding(crate::specs::Turning::after, bench_orders::specs::Orders::lane_count))]
 pub fn after(i: usize) -> usize
     ensures { result ≡ after i }
 {
-    if i < LAST {
-        return i + 1;
-    }
-    0
+    if i < LAST { i + 1 } else { 0 }
 }
 
-// The first running lane in cyclic order from one on, or LANES where none runs.
-fn seek(lanes: [Lane; LANES], from: usize) -> usize
-    requires { from < lane_count }
-    ensures { result ≡ seek lane_count lanes from }
+// Whether there is a lane i, and it runs.
+#[tactic(auto, unfolding(crate::specs::Turning::runs))]
+fn runs(lanes: &[Lane], i: usize) -> bool
+    ensures { result ≡ runs lanes.now i }
+{
+    match lanes.get(i) {
+        Some(l) => l.is(Phase::Running),
+        None => false,
+    }
+}
+
+// The first running lane in cyclic order from one on, if any runs.
+// Stays: the place is counted on by `after`, not by an iterator, as the new form is no plainer: `lanes[from..].iter().chain(&lanes[..from])` would give a place from which the lane's number is to be counted back.
+pub fn seek(lanes: &[Lane], from: usize) -> Option<usize>
+    ensures { MatchOption result
+        (seek lane_count lanes.now from ≡ lane_count)
+        (λ n. (n ≡ seek lane_count lanes.now from) × (n < length lanes.now)) }
 {
     let mut i = from;
-    let mut left: usize = LANES;
-    while 0 < left {
-        let l = lanes[i];
-        if l.phase == RUNNING {
-            return i;
+    for _passed in 0..LANES {
+        if runs(lanes, i) {
+            return Some(i);
         }
         i = after(i);
-        left -= 1;
     }
-    LANES
+    None
 }
 
-// One turn: the lane that it serves, or LANES where none runs, and the bench after it.
-#[derive(Clone, Copy)]
-struct One {
-    lane: usize,
-    bench: Bench,
-}
-
-fn turn_once(b: Bench) -> One
-    ensures { (result.lane ≡ chosen b) × (result.bench ≡ turned b) }
+// One turn, if any lane runs: the bench after it.
+fn turn_once(b: Bench) -> Option<Bench>
+    ensures { MatchOption result (any_runs b ≡ false) (λ e. (any_runs b ≡ true) × (e ≡ turned b)) }
 {
-    let lanes = b.lanes;
-    let n = seek(lanes, after(b.last as usize));
-    if n < LANES {
-        let mut bench = b;
-        bench.lanes[n] = served(lanes[n]);
-        bench.last = n as u32;
-        return One { lane: n, bench };
-    }
-    One { lane: n, bench: b }
+    let n = seek(&b.lanes, after(b.last as usize))?;
+    let mut bench = b;
+    bench.lanes[n] = served(b.lanes[n]);
+    bench.last = n as u32;
+    Some(bench)
 }
 
 // Many turns: how many were made, and the bench after them.
@@ -107,15 +118,11 @@ pub fn turns(b: Bench, asked: u32) -> Many
     ensures { (result.made ≡ length (served_by asked b)) × (result.bench ≡ turned_by asked b) }
 {
     let mut bench = b;
-    let mut made: u32 = 0;
-    while made < asked {
-        let one = turn_once(bench);
-        if LANES <= one.lane {
-            return Many { made, bench };
+    for made in 0..asked {
+        match turn_once(bench) {
+            Some(next) => bench = next,
+            None => return Many { made, bench },
         }
-        let next = one.bench;
-        bench = next;
-        made += 1;
     }
-    Many { made, bench }
+    Many { made: asked, bench }
 }

@@ -35,19 +35,12 @@ known-later e f kind h k =
     let g : kinds e ≤ kinds f = kinds_grow e f h in
     lt-ltb kind (kinds f) (omega arith)
 
--- editions and kinds past those that are named
+-- editions past those that are named
 pub kinds-last : (e : ℕ) → e ≢ 0 → e ≢ 1 → kinds e ≡ 3
 unfolding kinds
 kinds-last zero z o = absurd (z refl)
 kinds-last (suc zero) z o = absurd (o refl)
 kinds-last (suc (suc e)) z o = refl
-
-pub no_value : (kind : ℕ) (body : List ℕ) → kind ≢ 0 → kind ≢ 1 → kind ≢ 2 → good_value kind body ≡ false
-unfolding good_value
-no_value zero body z o t = absurd (z refl)
-no_value (suc zero) body z o t = absurd (o refl)
-no_value (suc (suc zero)) body z o t = absurd (t refl)
-no_value (suc (suc (suc k))) body z o t = refl
 
 -- ---- truth values
 

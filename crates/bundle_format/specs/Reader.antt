@@ -84,7 +84,7 @@ read_code reader key b =
 
 -- ---- answered
 
--- the states by name, as src/lib.rt has them
+-- the states by name: src/lib.rt has them as an enum
 abbrev pub REFUSED : ℕ
 REFUSED = 0
 

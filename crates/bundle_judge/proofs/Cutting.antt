@@ -1,15 +1,20 @@
--- Numbers at a place, byte by byte; the entry at a place; what is left of the table there.
-use mathlib.Core.Path.{◌≡◌, sym, ap, ap₂, ◌∙◌}
+-- Numbers at a place, byte by byte; the entry at a place; the table in entries of twelve bytes.
+use mathlib.Core.Path.{◌≡◌, refl, sym, ap, ap₂, ◌∙◌}
 use mathlib.Core.List.{List, [], ◌∷◌}
-use Prim.Native.Nat.{ℕ, suc, ◌+◌, ◌-◌, ◌*◌, ◌<◌, ◌≤◌}
+use Prim.Native.Nat.{ℕ, zero, suc, min, ◌+◌, ◌-◌, ◌*◌, ◌/◌, ◌<◌, ◌≤◌}
+use native.Mathlib.Nat.{not-suc-le-zero, le_of_suc-le-suc}
 use native.Mathlib.Numerals.{add-one}
 use native.Mathlib.Omega.{arith}
-use lib.ListN.{length, take, drop, get_or}
+use lib.ListN.{length, take, drop, get_or, drop_of_length-le}
 use lib.Seq.{drop-cons, drop-drop}
+use Rattle.std.specs.Prelude.{map}
+use Rattle.std.specs.Simd.{first_chunks}
+use Rattle.std.proofs.lemmas.List.{drop-take, take-take}
 use Rattle.published.specs.Bytes.{from_bytes}
 use Rattle.bundle_format.specs.Reader.{number_at, row_of, rows_from}
 use Rattle.bundle_format.specs.declared.Row.{Row}
-use Rattle.bundle_judge.specs.Inner.{rows_left}
+use Rattle.bundle_format.specs.Format.{first_body}
+use Rattle.bundle_judge.specs.Inner.{entries_in}
 
 pub number_one : (at : ℕ) (b : List ℕ) → at + 1 ≤ length b → number_at 1 at b ≡ get_or b at 0
 unfolding number_at from_bytes
@@ -30,34 +35,18 @@ number_two at b h =
     plain : get_or b at 0 * 256 + (get_or b (at + 1) 0 * 1 + 0) ≡ get_or b at 0 * 256 + get_or b (at + 1) 0
     plain = omega arith
 
-pub number-four : (at : ℕ) (b : List ℕ) → at + 4 ≤ length b → number_at 4 at b ≡ number_at 2 at b * 65536 + number_at 2 (at + 2) b
+pub number_four : (at : ℕ) (b : List ℕ) → at + 4 ≤ length b → number_at 4 at b ≡ get_or b at 0 * 16777216 + get_or b (at + 1) 0 * 65536 + get_or b (at + 2) 0 * 256 + get_or b (at + 3) 0
 unfolding number_at from_bytes
-number-four at b h =
+number_four at b h =
     ap from_bytes
     (more 3 at b h
-    ∙ ap (λ (l : List ℕ). x0 ∷ l) (more 2 (at + 1) b (omega arith) ∙ ap (λ (l : List ℕ). x1 ∷ l) (place (more 1 (at + 2) b (omega arith)) ∙ ap (λ (l : List ℕ). x2 ∷ l) (more 0 (at + 2 + 1) b (omega arith)))))
+    ∙ ap (λ (l : List ℕ). get_or b at 0 ∷ l) (more 2 (at + 1) b (omega arith) ∙ ap (λ (l : List ℕ). get_or b (at + 1) 0 ∷ l) (place 2 (at + 1 + 1) (at + 2) (omega arith) ∙ more 1 (at + 2) b (omega arith) ∙ ap (λ (l : List ℕ). get_or b (at + 2) 0 ∷ l) (place 1 (at + 2 + 1) (at + 3) (omega arith) ∙ more 0 (at + 3) b (omega arith)))))
     ∙ plain
-    ∙ sym (ap₂ (λ (m n : ℕ). m * 65536 + n) (number_two at b (omega arith)) (number_two (at + 2) b (omega arith)))
   where
-    x0 : ℕ
-    x0 = get_or b at 0
+    place : (k m n : ℕ) → m ≡ n → take k (drop m b) ≡ take k (drop n b)
+    place k m n e = ap (λ (x : ℕ). take k (drop x b)) e
 
-    x1 : ℕ
-    x1 = get_or b (at + 1) 0
-
-    x2 : ℕ
-    x2 = get_or b (at + 2) 0
-
-    x3 : ℕ
-    x3 = get_or b (at + 2 + 1) 0
-
-    place : {l : List ℕ} → take 2 (drop (at + 2) b) ≡ l → take 2 (drop (at + 1 + 1) b) ≡ l
-    place e = ap (λ (n : ℕ). take 2 (drop n b)) two ∙ e
-      where
-        two : at + 1 + 1 ≡ at + 2
-        two = omega arith
-
-    plain : x0 * 16777216 + (x1 * 65536 + (x2 * 256 + (x3 * 1 + 0))) ≡ (x0 * 256 + x1) * 65536 + (x2 * 256 + x3)
+    plain : get_or b at 0 * 16777216 + (get_or b (at + 1) 0 * 65536 + (get_or b (at + 2) 0 * 256 + (get_or b (at + 3) 0 * 1 + 0))) ≡ get_or b at 0 * 16777216 + get_or b (at + 1) 0 * 65536 + get_or b (at + 2) 0 * 256 + get_or b (at + 3) 0
     plain = omega arith
 
 -- a number of what comes after a place
@@ -78,36 +67,60 @@ row_there at b id place len kind must e0 e1 e2 e3 e4 =
       must = (e4 ∙ after 1 11 at b) i;
     }
 
--- one entry of those that are left, and the others
-pub rows_more : (b : List ℕ) (k i : ℕ) (r : Row) → r ≡ row_of (drop (8 + 12 * i) b) → rows_left b (suc k) i ≡ r ∷ rows_left b k (i + 1)
+-- ---- the table in entries of twelve bytes
+
+-- a number within the first twelve bytes
+within : (k j m : ℕ) (t : List ℕ) → k ≤ m → j + m ≡ 12 → number_at k j (take 12 t) ≡ number_at k j t
+unfolding number_at
+within k j m t h e = ap (λ (n : ℕ). from_bytes (take k (drop j (take n t)))) (sym e) ∙ ap (λ (l : List ℕ). from_bytes (take k l)) (drop-take j m t) ∙ ap from_bytes (take-take k m (drop j t) h)
+
+row_take : (t : List ℕ) → row_of (take 12 t) ≡ row_of t
+unfolding row_of
+row_take t =
+    λ i.
+    record {
+      id = within 4 0 12 t (omega arith) refl i;
+      at = within 4 4 8 t (omega arith) refl i;
+      len = within 2 8 4 t (omega arith) refl i;
+      kind = within 1 10 2 t (omega arith) refl i;
+      must = within 1 11 1 t (omega arith) refl i;
+    }
+
+rows_chunks : (n : ℕ) (t : List ℕ) → map row_of (first_chunks 12 n t) ≡ rows_from n t
 unfolding rows_from
-rows_more b k i r e = ap₂ ◌∷◌ (sym e) (ap (rows_from k) (drop-drop 12 (8 + 12 * i) b ∙ ap (λ (n : ℕ). drop n b) next))
-  where
-    next : 8 + 12 * i + 12 ≡ 8 + 12 * (i + 1)
-    next = omega arith
+rows_chunks zero t = refl
+rows_chunks (suc n) t = ap₂ ◌∷◌ (row_take t) (rows_chunks n (drop 12 t))
 
--- ---- a loop over the table: the whole answer is f of the entries that are left
+pub chunks_count : (n : ℕ) (t : List ℕ) → length (first_chunks 12 n t) ≡ n
+chunks_count zero t = refl
+chunks_count (suc n) t = ap suc (chunks_count n (drop 12 t))
 
-abbrev pub Left : {X : Type 0} → (b : List ℕ) (count : ℕ) (whole : X) (f : List Row → X) (i : ℕ) → Type 0
-Left b count whole f i = (k : ℕ) → i + k ≡ count → whole ≡ f (rows_left b k i)
+pub chunks_taken : (k n : ℕ) (t : List ℕ) → k ≤ n → take k (first_chunks 12 n t) ≡ first_chunks 12 k t
+chunks_taken zero n t h = refl
+chunks_taken (suc k) zero t h = absurd (not-suc-le-zero h)
+chunks_taken (suc k) (suc n) t h = ap (λ (l : List (List ℕ)). take 12 t ∷ l) (chunks_taken k n (drop 12 t) (le_of_suc-le-suc h))
 
-module _ {X : Type 0} (b : List ℕ) (count : ℕ) (whole : X) (f : List Row → X) where
-  pub left_start : whole ≡ f (rows_from count (drop 8 b)) → Left b count whole f 0
-  left_start e k h = e ∙ ap (λ (n : ℕ). f (rows_from n (drop 8 b))) all
-    where
-      all : count ≡ k
-      all = omega arith
+module _ (count : ℕ) (b : List ℕ) where
+  pub entries_count : length (entries_in count b) ≡ min count ((length b - 8) / 12)
+  unfolding entries_in
+  entries_count = chunks_count (min count ((length b - 8) / 12)) (drop 8 b)
 
-  module _ (i : ℕ) (left : Left b count whole f i) where
-    pub left_end : i ≤ count → count ≤ i → whole ≡ f []
-    unfolding rows_from
-    left_end l m = left 0 (omega arith)
+  -- a table that is within the bytes
+  module _ (fits : first_body count ≤ length b) where
+    all : min count ((length b - 8) / 12) ≡ count
+    all = omega arith
 
-    module _ (here : i < count) (r : Row) (is : r ≡ row_of (drop (8 + 12 * i) b)) where
-      -- the entry decides
-      pub left_stop : (x : X) → ((rs : List Row) → f (r ∷ rs) ≡ x) → whole ≡ x
-      left_stop x stop = left (suc (count - (i + 1))) (omega arith) ∙ ap f (rows_more b (count - (i + 1)) i r is) ∙ stop (rows_left b (count - (i + 1)) (i + 1))
+    pub entries_all : length (entries_in count b) ≡ count
+    entries_all = entries_count ∙ all
 
-      -- the entry leaves it to the others
-      pub left_more : (g : List Row → X) → ((rs : List Row) → f (r ∷ rs) ≡ g rs) → Left b count whole g (i + 1)
-      left_more g go k h = left (suc k) (omega arith) ∙ ap f (rows_more b k i r is) ∙ go (rows_left b k (i + 1))
+    pub entries_rows : map row_of (entries_in count b) ≡ rows_from count (drop 8 b)
+    unfolding entries_in
+    entries_rows = rows_chunks (min count ((length b - 8) / 12)) (drop 8 b) ∙ ap (λ (n : ℕ). rows_from n (drop 8 b)) all
+
+-- the entries from the one at a place on, and past the last one
+pub rows_left : (es : List (List ℕ)) (i : ℕ) (r : Row) → i < length es → r ≡ row_of (get_or es i []) → map row_of (drop i es) ≡ r ∷ map row_of (drop (i + 1) es)
+rows_left es i r h e =
+    ap (map row_of) (drop-cons es i [] h ∙ ap (λ (n : ℕ). get_or es i [] ∷ drop n es) (sym (add-one i))) ∙ ap (λ (x : Row). x ∷ map row_of (drop (i + 1) es)) (sym e)
+
+pub rows_end : (es : List (List ℕ)) (i : ℕ) → length es ≤ i → map row_of (drop i es) ≡ []
+rows_end es i h = ap (map row_of) (drop_of_length-le es {i = i} h)

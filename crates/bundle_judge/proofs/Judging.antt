@@ -1,4 +1,4 @@
--- What one entry does to a judgement over the table, the header's numbers, and what is cut out of bytes that are long enough.
+-- What one entry does to a judgement over the table, and the header's numbers.
 use mathlib.Core.Path.{◌≡◌, refl, sym, ap, ap₂, ◌∙◌}
 use mathlib.Core.Bool.{Bool, true, false, not, ◌&&◌, ◌||◌}
 use mathlib.Core.List.{List, ◌∷◌}
@@ -6,13 +6,13 @@ use Prim.Native.Nat.{ℕ, ◌+◌, ◌<◌, ◌≤◌}
 use native.Mathlib.Omega.{arith}
 use lib.Dec.{eqb, leb}
 use lib.ListN.{length, drop}
-use borrow.Author.Tests.{le-leb, lt-leb}
-use Rattle.bits.proofs.Computed.{cond-true, cond-false}
+use borrow.Author.Tests.{le-leb}
+use Rattle.bits.proofs.Computed.{cond-true}
 use Rattle.bundle_format.specs.Format.{knows, first_body}
-use Rattle.bundle_format.specs.Reader.{edition_of, count_of, end_of, row_of, rows_from, body_at, in_place, in_kind, sound_rows, well_formed, all_known}
+use Rattle.bundle_format.specs.Reader.{edition_of, count_of, end_of, rows_from, body_at, in_place, in_kind, sound_rows, well_formed, all_known}
 use Rattle.bundle_format.specs.declared.Row.{Row}
 use Rattle.bundle_format.proofs.Accepted.{formed_only}
-use Rattle.bundle_judge.specs.Inner.{count_in, no_row, row_in}
+use Rattle.bundle_judge.specs.Inner.{count_in}
 
 -- what a test of an entry told, by an edition that is the bundle's
 pub sound-told : (reader : ℕ) (b : List ℕ) (low at : ℕ) (r : Row) (edition : ℕ) (told : Bool) → edition ≡ edition_of b → told ≡ (in_place (end_of b) low at r && in_kind reader edition r.kind (body_at b r))
@@ -52,13 +52,7 @@ short_not_formed reader b h = go (well_formed reader b) refl
     go true e = absurd (omega (arith, (formed_only reader b e).table))
     go false e = refl
 
--- ---- bytes that are long enough
+-- ---- the count of bytes that have a header's first half
 
 pub count_in_lem : (b : List ℕ) → 4 ≤ length b → count_in b ≡ count_of b
 count_in_lem b h = cond-true (leb 4 (length b)) (count_of b) 0 (le-leb 4 (length b) h)
-
-pub row_in_lem : (at : ℕ) (b : List ℕ) → at + 12 ≤ length b → row_in at b ≡ row_of (drop at b)
-row_in_lem at b h = cond-true (leb (at + 12) (length b)) (row_of (drop at b)) no_row (le-leb (at + 12) (length b) h)
-
-pub row_out : (at : ℕ) (b : List ℕ) → length b < at + 12 → row_in at b ≡ no_row
-row_out at b h = cond-false (leb (at + 12) (length b)) (row_of (drop at b)) no_row (lt-leb (at + 12) (length b) h)

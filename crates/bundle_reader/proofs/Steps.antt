@@ -2,21 +2,24 @@
 use mathlib.Core.Path.{◌≡◌, refl, sym, ap, ap₂, ◌∙◌}
 use mathlib.Core.Bool.{Bool, true, false, cond, ◌&&◌}
 use mathlib.Core.Logic.{◌≢◌}
-use mathlib.Core.List.{List, ◌∷◌}
+use mathlib.Core.List.{List, [], ◌∷◌}
 use Prim.Native.Nat.{ℕ, zero, suc, ◌+◌, ◌-◌, ◌*◌, ◌<◌, ◌≤◌}
 use native.Mathlib.Nat.{not-suc-le-zero, le_of_suc-le-suc}
 use native.Mathlib.Omega.{arith}
 use lib.Dec.{eqb, leb}
-use lib.ListN.{length, take, drop, length-drop}
+use lib.ListN.{length, take, drop, get_or, length-drop}
+use Rattle.std.specs.Prelude.{map}
 use lib.Seq.{drop-drop}
 use borrow.Author.Tests.{eq-eqb, ne_eqb, leb-true}
+use Rattle.answers.specs.Refusals.{number_of}
+use Rattle.answers.specs.declared.Refusal.{Refusal}
+use Rattle.answers.specs.declared.Refusal.TheVariants.{BadKeyLength, BadBlockLength, BadOutputLength, BadWordCount, BadLane, LaneNotIdle, LaneNotFinished, TooManyTurns, BadDirection, BadBench, BadState, NotTheOwner, TooFewCounters, BadOrder, BadBundleLength, BadTag, Malformed, MustKnow, BadList, ShortOutput}
 use Rattle.answers.proofs.Outcome.{if_done_lem}
 use Rattle.bits.proofs.Truth.{both}
 use Rattle.published.specs.Calls.{block_code, key_code}
 use Rattle.published.specs.Gift128.{encrypted}
 use Rattle.cmac_parts.specs.Standard.{cmac}
 use Rattle.cmac.specs.Calls.{same, Checks}
-use Rattle.cmac.proofs.Pieces.{to_end}
 use Rattle.bundle_format.specs.Format.{first_body, tag_of}
 use Rattle.bundle_format.specs.Reader.{count_of, end_of, row_of, rows_from, right_size, read_code, opened, answers_for, ABSENT, bare, tell, tell_in, tell_at}
 use Rattle.bundle_format.specs.declared.Row.{Row}
@@ -33,11 +36,18 @@ module _ (reader : ℕ) (r : Row) (rs : List Row) where
   unfolding tell_in
   tell_more id ne = ap (λ (t : Bool). cond t (tell reader r) (tell_in reader id rs)) (ne_eqb r.id id ne)
 
-pub entry_none : (reader n i : ℕ) (t : List ℕ) → n ≤ i → tell_at reader i (rows_from n t) ≡ bare ABSENT 0
-unfolding tell_at rows_from
-entry_none reader zero i t h = refl
-entry_none reader (suc n) zero t h = absurd (not-suc-le-zero h)
-entry_none reader (suc n) (suc i) t h = entry_none reader n i (drop 12 t) (le_of_suc-le-suc h)
+-- past the last entry, and the entry at a place, cut out or in the bytes of a table
+pub told_none : (reader i : ℕ) (es : List (List ℕ)) → length es ≤ i → tell_at reader i (map row_of es) ≡ bare ABSENT 0
+unfolding tell_at
+told_none reader i [] h = refl
+told_none reader zero (t ∷ es) h = absurd (not-suc-le-zero h)
+told_none reader (suc i) (t ∷ es) h = told_none reader i es (le_of_suc-le-suc h)
+
+pub told_there : (reader i : ℕ) (es : List (List ℕ)) (r : Row) → i < length es → r ≡ row_of (get_or es i []) → tell_at reader i (map row_of es) ≡ tell reader r
+unfolding tell_at
+told_there reader i [] r h e = absurd (not-suc-le-zero h)
+told_there reader zero (t ∷ es) r h e = ap (tell reader) (sym e)
+told_there reader (suc i) (t ∷ es) r h e = told_there reader i es r (le_of_suc-le-suc h) e
 
 pub entry_there : (reader n i : ℕ) (t : List ℕ) → i < n → tell_at reader i (rows_from n t) ≡ tell reader (row_of (drop (12 * i) t))
 unfolding tell_at rows_from
@@ -50,27 +60,19 @@ entry_there reader (suc n) (suc i) t h =
     twelve = omega arith
 
 -- the tag that a check of it says yes to
-pub tag-told : (key b : List ℕ) (end size code : ℕ) (says : Bool) → length key ≡ 16 → 24 ≤ length b → end ≡ end_of b → size ≡ length b
-    → Checks key (take (end - 0) (drop 0 b)) (take (size - end) (drop end b)) code says → says ≡ same (drop (end_of b) b) (tag_of key (take (end_of b) b))
+pub tag-told : (key b message tag : List ℕ) (code : ℕ) (says : Bool) → length key ≡ 16 → 24 ≤ length b → message ≡ take (end_of b) b → tag ≡ drop (end_of b) b → Checks key message tag code says
+    → says ≡ same (drop (end_of b) b) (tag_of key (take (end_of b) b))
 unfolding tag_of key_code block_code
-tag-told key b end size code says keyed least ends sized c =
-    c.leaves
-    ∙ if_done_lem (key_code (length key) (length (take (size - end) (drop end b)))) (same (take (size - end) (drop end b)) (cmac (encrypted key) (take (end - 0) b))) false done
-    ∙ ap₂ same tag (ap (λ (n : ℕ). cmac (encrypted key) (take n b)) message)
+tag-told key b message tag code says keyed least em et c =
+    c.leaves ∙ if_done_lem (key_code (length key) (length tag)) (same tag (cmac (encrypted key) message)) false done ∙ ap₂ (λ (t m : List ℕ). same t (cmac (encrypted key) m)) et em
   where
-    message : end - 0 ≡ end_of b
-    message = omega arith
-
-    tag : take (size - end) (drop end b) ≡ drop (end_of b) b
-    tag = ap₂ (λ (n m : ℕ). take (n - m) (drop m b)) sized ends ∙ to_end (end_of b) b
-
-    sixteen : length (take (size - end) (drop end b)) ≡ 16
-    sixteen = ap length tag ∙ length-drop (end_of b) b ∙ last
+    sixteen : length tag ≡ 16
+    sixteen = ap length et ∙ length-drop (end_of b) b ∙ last
       where
         last : length b - end_of b ≡ 16
         last = omega arith
 
-    done : key_code (length key) (length (take (size - end) (drop end b))) ≡ 0
+    done : key_code (length key) (length tag) ≡ 0
     done = ap₂ key_code keyed sixteen
 
 -- a number that comes after the tag
@@ -112,3 +114,26 @@ module _ (reader : ℕ) (key b : List ℕ) (code : ℕ) (told : code ≡ read_co
   opened-done z count e =
       (λ i. record { code = 0; reader = reader; count = e i; size = length b })
       ∙ sym (ap (λ (t : Bool). cond t (record { code = 0; reader = reader; count = count_of b; size = length b }) (none (read_code reader key b))) (eq-eqb (read_code reader key b) 0 (sym told ∙ z)))
+
+-- a refusal has a number that is not 0
+pub no_refusal_is_done : (r : Refusal) → number_of r ≢ 0
+no_refusal_is_done BadKeyLength e = omega arith
+no_refusal_is_done BadBlockLength e = omega arith
+no_refusal_is_done BadOutputLength e = omega arith
+no_refusal_is_done BadWordCount e = omega arith
+no_refusal_is_done BadLane e = omega arith
+no_refusal_is_done LaneNotIdle e = omega arith
+no_refusal_is_done LaneNotFinished e = omega arith
+no_refusal_is_done TooManyTurns e = omega arith
+no_refusal_is_done BadDirection e = omega arith
+no_refusal_is_done BadBench e = omega arith
+no_refusal_is_done BadState e = omega arith
+no_refusal_is_done NotTheOwner e = omega arith
+no_refusal_is_done TooFewCounters e = omega arith
+no_refusal_is_done BadOrder e = omega arith
+no_refusal_is_done BadBundleLength e = omega arith
+no_refusal_is_done BadTag e = omega arith
+no_refusal_is_done Malformed e = omega arith
+no_refusal_is_done MustKnow e = omega arith
+no_refusal_is_done BadList e = omega arith
+no_refusal_is_done ShortOutput e = omega arith

@@ -1,11 +1,11 @@
--- Bytes that are stored: all of some bytes one by one; parts put one after the other.
+-- Bytes that are stored: those of a header and of an entry; parts put one after the other.
 use mathlib.Core.Path.{◌≡◌, refl, sym, ap, ap₂, ◌∙◌}
 use mathlib.Core.List.{List, [], ◌∷◌, ◌++◌, append_assoc, append-nil}
 use Prim.Native.Nat.{ℕ, zero, suc, ◌+◌, ◌-◌, ◌*◌, ◌/◌, ◌%◌, ◌<◌, ◌≤◌}
 use native.Mathlib.Nat.{div-one}
 use native.Mathlib.Omega.{arith}
-use lib.ListN.{length, take, drop, get_or, length-append, drop_of_length-le}
-use lib.Seq.{length-take-le, sets, sets-eq, take_at, take_all, drop-drop}
+use lib.ListN.{length, take, drop, get_or, length-append}
+use lib.Seq.{length-take-le, take_at, take_all, drop-drop}
 use borrow.Rule.Slice.PartMut.{put_mid, post_of, same_len_mid, mid_len, Post-is, drop_put}
 use Rattle.bits.specs.Digit.{digit}
 use Rattle.published.specs.Bytes.{to_bytes}
@@ -14,37 +14,20 @@ use Rattle.cmac_parts.specs.Standard.{cmac}
 use Rattle.cmac.specs.Calls.{TagsWhole}
 use Rattle.cmac.proofs.Pieces.{tagged}
 use Rattle.bundle_format.specs.Format.{Setting, header, row_bytes, table_of, placed, total_of, untagged, tag_of, encode}
-use Rattle.bundle_format.specs.Writer.{list_from, sizes}
 use Rattle.bundle_format.specs.declared.Row.{Row}
 use Rattle.bundle_format.proofs.Rows.{length-row, length-table}
-use Rattle.bundle_writer.specs.Inner.{lent_row, lent_rows}
-use Rattle.bundle_writer.proofs.Lent.{rows_more, length-list, list-placed, bodies_all, total_all}
+use Rattle.bundle_writer.specs.Inner.{settings_in, sizes_in, lent_row, lent_rows}
+use Rattle.bundle_writer.proofs.Lent.{rows_left, rows_end, length_settings, settings_placed, bodies_all, total_settings}
 
-pub stored : (l bs : List ℕ) → length l ≡ length bs → sets l 0 bs ≡ bs
-stored l bs e =
-    sets-eq bs l 0 (omega arith) ∙ ap (λ (x : List ℕ). bs ++ x) (drop_of_length-le l {i = 0 + length bs} (omega arith)) ∙ append-nil bs
-
-abbrev header_digits : (edition count total : ℕ) → List ℕ
-header_digits edition count total =
-    edition / 256 % 256 ∷ edition % 256 ∷ count / 256 % 256 ∷ count % 256 ∷ total / 16777216 % 256 ∷ total / 65536 % 256 ∷ total / 256 % 256 ∷ total % 256 ∷ []
-
-header-digits : (edition count total : ℕ) → header_digits edition count total ≡ header edition count total
+pub header-digits : (edition count total : ℕ)
+    → edition / 256 % 256 ∷ edition % 256 ∷ count / 256 % 256 ∷ count % 256 ∷ total / 16777216 % 256 ∷ total / 65536 % 256 ∷ total / 256 % 256 ∷ total % 256 ∷ [] ≡ header edition count total
 unfolding header to_bytes digit
 header-digits edition count total = simp div-one
 
-pub header-stored : (l : List ℕ) (edition count total : ℕ) → length l ≡ 8 → sets l 0 (header_digits edition count total) ≡ header edition count total
-header-stored l edition count total e = stored l (header_digits edition count total) e ∙ header-digits edition count total
-
-abbrev row_digits : Row → List ℕ
-row_digits r =
-    r.id / 16777216 % 256 ∷ r.id / 65536 % 256 ∷ r.id / 256 % 256 ∷ r.id % 256 ∷ r.at / 16777216 % 256 ∷ r.at / 65536 % 256 ∷ r.at / 256 % 256 ∷ r.at % 256 ∷ r.len / 256 % 256 ∷ r.len % 256 ∷ r.kind % 256 ∷ r.must % 256 ∷ []
-
-row-digits : (r : Row) → row_digits r ≡ row_bytes r
+pub row-digits : (r : Row)
+    → r.id / 16777216 % 256 ∷ r.id / 65536 % 256 ∷ r.id / 256 % 256 ∷ r.id % 256 ∷ r.at / 16777216 % 256 ∷ r.at / 65536 % 256 ∷ r.at / 256 % 256 ∷ r.at % 256 ∷ r.len / 256 % 256 ∷ r.len % 256 ∷ r.kind % 256 ∷ r.must % 256 ∷ [] ≡ row_bytes r
 unfolding row_bytes to_bytes digit
 row-digits r = simp div-one
-
-pub row-stored : (l : List ℕ) (r : Row) → length l ≡ 12 → sets l 0 (row_digits r) ≡ row_bytes r
-row-stored l r e = stored l (row_digits r) e ∙ row-digits r
 
 -- ---- parts put one after the other: what stands before the end of the last one
 
@@ -65,56 +48,50 @@ put-length a e xs ys g len = same_len_mid a (e - a) xs ys (len ∙ sym (mid_len 
 
 -- ---- the table, entry by entry
 
-abbrev pub Tables : (rows : List ℕ) (n : ℕ) (whole out : List ℕ) (i at : ℕ) → Type 0
-Tables rows n whole out i at = (k : ℕ) → i + k ≡ n → take (12 * i) out ++ table_of (lent_rows k at (drop (4 * i) rows)) ≡ whole
+module _ (rows : List (List ℕ)) (whole out : List ℕ) (size : length out ≡ 12 * length rows) (i at : ℕ) (left : take (12 * i) out ++ table_of (lent_rows at (drop i rows)) ≡ whole) where
+  pub table_end : i ≤ length rows → length rows ≤ i → out ≡ whole
+  unfolding lent_rows table_of
+  table_end h g =
+      sym (append-nil out) ∙ ap (λ (l : List ℕ). l ++ []) (sym (take_all (12 * i) out (omega arith))) ∙ ap (λ (l : List (List ℕ)). take (12 * i) out ++ table_of (lent_rows at l)) (sym (rows_end rows i g)) ∙ left
 
-module _ (rows : List ℕ) (n : ℕ) (whole : List ℕ) where
-  pub tables_start : (out : List ℕ) (first : ℕ) → whole ≡ table_of (lent_rows n first rows) → Tables rows n whole out 0 first
-  tables_start out first e k h = ap (λ (m : ℕ). table_of (lent_rows m first rows)) all ∙ sym e
+  pub table_more : i < length rows → (r : Row) → r ≡ lent_row at (get_or rows i []) → (new : List ℕ) → new ≡ row_bytes r
+      → take (12 * (i + 1)) (put_mid (12 * i) (12 * i + 12 - 12 * i) out new) ++ table_of (lent_rows (at + r.len) (drop (i + 1) rows)) ≡ whole
+  unfolding table_of lent_rows lent_row
+  table_more here r is new made =
+      ap (λ (l : List ℕ). l ++ table_of (lent_rows (at + r.len) (drop (i + 1) rows)))
+      (ap (λ (m : ℕ). take m (put_mid (12 * i) (12 * i + 12 - 12 * i) out new)) twelve
+      ∙ put_front (12 * i) (12 * i + 12) out new (take (12 * i) out) (omega arith) (omega arith) (ap length made ∙ length-row r ∙ size') refl)
+      ∙ append_assoc (take (12 * i) out) new (table_of (lent_rows (at + r.len) (drop (i + 1) rows)))
+      ∙ ap (λ (l : List ℕ). take (12 * i) out ++ l) (ap (λ (l : List ℕ). l ++ table_of (lent_rows (at + r.len) (drop (i + 1) rows))) made ∙ sym next)
+      ∙ left
     where
-      all : k ≡ n
-      all = omega arith
+      twelve : 12 * (i + 1) ≡ 12 * i + 12
+      twelve = omega arith
 
-  module _ (out : List ℕ) (size : length out ≡ 12 * n) (i at : ℕ) (t : Tables rows n whole out i at) where
-    pub tables_end : i ≡ n → out ≡ whole
-    unfolding lent_rows table_of
-    tables_end e = sym (append-nil out) ∙ ap (λ (l : List ℕ). l ++ []) (sym (take_all (12 * i) out (omega arith))) ∙ t 0 (omega arith)
+      size' : 12 ≡ 12 * i + 12 - 12 * i
+      size' = omega arith
 
-    pub tables_more : i < n → (r : Row) → r ≡ lent_row at (drop (4 * i) rows) → (new : List ℕ) → new ≡ row_bytes r
-        → Tables rows n whole (put_mid (12 * i) (12 * i + 12 - 12 * i) out new) (i + 1) (at + r.len)
-    unfolding table_of
-    tables_more here r is new made k h =
-        ap (λ (l : List ℕ). l ++ table_of (lent_rows k (at + r.len) (drop (4 * (i + 1)) rows)))
-        (ap (λ (m : ℕ). take m (put_mid (12 * i) (12 * i + 12 - 12 * i) out new)) twelve
-        ∙ put_front (12 * i) (12 * i + 12) out new (take (12 * i) out) (omega arith) (omega arith) (ap length made ∙ length-row r ∙ size') refl)
-        ∙ append_assoc (take (12 * i) out) new (table_of (lent_rows k (at + r.len) (drop (4 * (i + 1)) rows)))
-        ∙ ap (λ (l : List ℕ). take (12 * i) out ++ l) (ap (λ (l : List ℕ). l ++ table_of (lent_rows k (at + r.len) (drop (4 * (i + 1)) rows))) made ∙ sym (ap table_of (rows_more rows k i at r is)))
-        ∙ t (suc k) (omega arith)
-      where
-        twelve : 12 * (i + 1) ≡ 12 * i + 12
-        twelve = omega arith
-
-        size' : 12 ≡ 12 * i + 12 - 12 * i
-        size' = omega arith
+      next : table_of (lent_rows at (drop i rows)) ≡ row_bytes r ++ table_of (lent_rows (at + r.len) (drop (i + 1) rows))
+      next = ap (λ (l : List (List ℕ)). table_of (lent_rows at l)) (rows_left rows i here) ∙ ap (λ (x : Row). row_bytes x ++ table_of (lent_rows (at + x.len) (drop (i + 1) rows))) (sym is)
 
 -- ---- all before the tag
 
-pub untagged_is : (edition n : ℕ) (rows pool h t p : List ℕ) → sizes n rows ≡ length pool → h ≡ header edition n (8 + 12 * n + length pool + 16) → t ≡ table_of (lent_rows n (8 + 12 * n) rows) → p ≡ pool
-    → h ++ t ++ p ≡ untagged edition (list_from n rows pool)
+pub untagged_is : (edition : ℕ) (rows : List (List ℕ)) (pool h t p : List ℕ) → sizes_in rows ≡ length pool → h ≡ header edition (length rows) (8 + 12 * length rows + length pool + 16) → t ≡ table_of (lent_rows (8 + 12 * length rows) rows) → p ≡ pool
+    → h ++ t ++ p ≡ untagged edition (settings_in rows pool)
 unfolding untagged
-untagged_is edition n rows pool h t p all eh et ep =
+untagged_is edition rows pool h t p all eh et ep =
     ap₂ ◌++◌
-    (ap₂ ◌++◌ (eh ∙ ap₂ (header edition) (sym (length-list n rows pool)) (sym (total_all n rows pool all)))
-    (et ∙ ap table_of (sym (ap (λ (m : ℕ). placed (8 + 12 * m) (list_from n rows pool)) (length-list n rows pool) ∙ list-placed n (8 + 12 * n) rows pool (omega arith)))))
-    (ep ∙ sym (bodies_all n rows pool all))
+    (ap₂ ◌++◌ (eh ∙ ap₂ (header edition) (sym (length_settings rows pool)) (sym (total_settings rows pool all)))
+    (et ∙ ap table_of (sym (ap (λ (m : ℕ). placed (8 + 12 * m) (settings_in rows pool)) (length_settings rows pool) ∙ settings_placed (8 + 12 * length rows) rows pool (omega arith)))))
+    (ep ∙ sym (bodies_all rows pool all))
 
-length-rows : (n at : ℕ) (rows : List ℕ) → length (lent_rows n at rows) ≡ n
+length-rows : (at : ℕ) (rows : List (List ℕ)) → length (lent_rows at rows) ≡ length rows
 unfolding lent_rows
-length-rows zero at rows = refl
-length-rows (suc n) at rows = ap suc (length-rows n (at + get_or rows 3 0) (drop 4 rows))
+length-rows at [] = refl
+length-rows at (row ∷ rows) = ap suc (length-rows (at + get_or row 3 0) rows)
 
-pub length_lent : (n at : ℕ) (rows : List ℕ) → length (table_of (lent_rows n at rows)) ≡ 12 * n
-length_lent n at rows = length-table (lent_rows n at rows) ∙ ap (λ (m : ℕ). 12 * m) (length-rows n at rows)
+pub length_lent : (at : ℕ) (rows : List (List ℕ)) → length (table_of (lent_rows at rows)) ≡ 12 * length rows
+length_lent at rows = length-table (lent_rows at rows) ∙ ap (λ (m : ℕ). 12 * m) (length-rows at rows)
 
 pub three-parts : (out h t p : List ℕ) (first end : ℕ) → 8 ≤ first → first ≤ end → length out ≡ end → length h ≡ 8 → length t ≡ first - 8 → length p ≡ end - first
     → put_mid first (end - first) (put_mid 8 (first - 8) (put_mid 0 (8 - 0) out h) t) p ≡ h ++ t ++ p

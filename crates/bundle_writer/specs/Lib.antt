@@ -1,2 +1,2 @@
--- Inner: the table's entries of rows that are lent.
+-- Inner: rows that are lent, as settings and as the table's entries.
 pub mod Inner

@@ -1,20 +1,16 @@
 // Whether lent rows and a pool are a list that a bundle of an edition can hold.
-ghost use Rattle.std.specs.Prelude.{◌≡◌, ◌+◌, ◌*◌, ◌≤◌, length, drop};
+ghost use Rattle.std.specs.Prelude.{◌≡◌, ◌≤◌, length};
 ghost use Rattle.bundle_format.specs.Format.{good_setting, good_from};
-ghost use Rattle.bundle_format.specs.Writer.{list_from, sizes, good_rows};
-ghost use Rattle.bundle_writer.specs.Inner.{lent_row};
+ghost use Rattle.bundle_format.specs.Writer.{good_rows};
+ghost use Rattle.bundle_writer.specs.Inner.{settings_in, sizes_in, lent_row};
 
 use bundle_format::{Row, good_value, knows_kind};
 
-// The row at a place, its body at `at`.
-pub(crate) fn lent_row(rows: &[u32], p: usize, at: u32) -> Row
-    requires { p + 4 ≤ length rows.now }
-    ensures { result ≡ lent_row at (drop p rows.now) }
+// The entry of a row, its body at `at`.
+pub(crate) fn lent_row(row: &[u32; 4], at: u32) -> Row
+    ensures { result ≡ lent_row at row.now }
 {
-    let id = rows[p];
-    let kind = rows[p + 1];
-    let must = rows[p + 2];
-    let len = rows[p + 3];
+    let [id, kind, must, len] = *row;
     Row {
         id,
         at,
@@ -24,18 +20,14 @@ pub(crate) fn lent_row(rows: &[u32], p: usize, at: u32) -> Row
     }
 }
 
-// How many bytes n rows say that they have.
-fn size_of(rows: &[u32], n: usize) -> usize
-    requires n_in_bounds { 4 * n ≤ length rows.now }
-    requires n_bound { n ≤ 256 }
-    ensures { result ≡ sizes n rows.now }
+// How many bytes rows say that they have.
+fn size_of(rows: &[[u32; 4]]) -> usize
+    requires { length rows.now ≤ 256 }
+    ensures { result ≡ sizes_in rows.now }
 {
     let mut sum: usize = 0;
-    let mut i: usize = 0;
-    while i < n {
-        let row = lent_row(rows, 4 * i, 0);
-        sum = sum + row.len as usize;
-        i += 1;
+    for row in rows {
+        sum += row[3] as usize;
     }
     sum
 }
@@ -56,23 +48,20 @@ fn good_setting(edition: u32, low: usize, row: Row, body: &[u8]) -> bool
     row.must <= 1
 }
 
-fn good_settings(edition: u32, rows: &[u32], pool: &[u8], n: usize) -> bool
-    requires n_in_bounds { 4 * n ≤ length rows.now }
-    requires rows_value { sizes n rows.now ≡ length pool.now }
-    ensures { result ≡ good_from edition 0 (list_from n rows.now pool.now) }
+fn good_settings(edition: u32, rows: &[[u32; 4]], pool: &[u8]) -> bool
+    requires { sizes_in rows.now ≡ length pool.now }
+    ensures { result ≡ good_from edition 0 (settings_in rows.now pool.now) }
 {
     let mut low: usize = 0;
-    let mut from: usize = 0;
-    let mut i: usize = 0;
-    while i < n {
-        let row = lent_row(rows, 4 * i, 0);
-        let end = from + row.len as usize;
-        if !good_setting(edition, low, row, &pool[from..end]) {
+    let mut rest = pool;
+    for row in rows {
+        let setting = lent_row(row, 0);
+        let (body, after) = rest.split_at(setting.len as usize);
+        if !good_setting(edition, low, setting, body) {
             return false;
         }
-        low = row.id as usize + 1;
-        from = end;
-        i += 1;
+        low = setting.id as usize + 1;
+        rest = after;
     }
     true
 }
@@ -81,18 +70,18 @@ fn good_settings(edition: u32, rows: &[u32], pool: &[u8], n: usize) -> bool
 pub(crate) fn good_rows(edition: u32, rows: &[u32], pool: &[u8]) -> bool
     ensures { result ≡ good_rows edition rows.now pool.now }
 {
-    if rows.len() % 4 != 0 {
+    let (lent, left) = rows.as_chunks::<4>();
+    if left.len() != 0 {
         return false;
     }
-    let n = rows.len() / 4;
-    if 256 < n {
+    if 256 < lent.len() {
         return false;
     }
-    if size_of(rows, n) != pool.len() {
+    if size_of(lent) != pool.len() {
         return false;
     }
-    if 65512 - 12 * n < pool.len() {
+    if 65512 - 12 * lent.len() < pool.len() {
         return false;
     }
-    good_settings(edition, rows, pool, n)
+    good_settings(edition, lent, pool)
 }

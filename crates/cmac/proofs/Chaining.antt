@@ -56,11 +56,6 @@ unfolding chained
 chained_append ciph c [] ns = refl
 chained_append ciph c (m ∷ ms) ns = chained_append ciph (ciph (c ⊕ m)) ms ns
 
--- one block more
-pub chained_more : (ciph : List ℕ → List ℕ) (c : List ℕ) (n : ℕ) (m : List ℕ) → chained ciph c (blocks (n + 1) m) ≡ ciph (chained ciph c (blocks n m) ⊕ take 16 (past n m))
-unfolding chained blocks
-chained_more ciph c n m = ap (chained ciph c) (blocks-add n 1 m) ∙ chained_append ciph c (blocks n m) (take 16 (past n m) ∷ [])
-
 -- ---- a tag has sixteen bytes
 
 pub length-encrypted : (key b : List ℕ) → length (encrypted key b) ≡ 16

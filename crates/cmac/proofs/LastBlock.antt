@@ -9,12 +9,8 @@ use lib.Dec.{eqb}
 use lib.ListN.{length, take, replicate, length-append}
 use lib.Seq.{length-take-le, take_all}
 use borrow.Author.Tests.{eqb-true}
-use Rattle.cmac_parts.specs.Standard.{◌⊕◌, zero_block, K1, K2, padded, last_block}
+use Rattle.cmac_parts.specs.Standard.{◌⊕◌, K1, K2, padded, last_block}
 use Rattle.cmac.specs.Calls.{kept}
-
-pub length-zero_block : length zero_block ≡ 16
-unfolding zero_block
-length-zero_block = refl
 
 -- a full block is kept as it is
 pub kept_whole : (m : List ℕ) → length m ≡ 16 → kept m ≡ m

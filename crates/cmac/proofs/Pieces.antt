@@ -1,14 +1,13 @@
 -- Pieces: what the code leaves of one, that two are their concatenation, and that any cutting gives the whole message's tag.
 use mathlib.Core.Path.{◌≡◌, refl, sym, ap, ap₂, ◌∙◌, fun_ext}
-use mathlib.Core.Bool.{Bool, true, false, cond}
+use mathlib.Core.Bool.{Bool, true, false}
 use mathlib.Core.List.{List, [], ◌∷◌, ◌++◌, append_assoc, append-nil}
 use mathlib.Core.Logic.{◌≢◌}
 use Prim.Native.Nat.{ℕ, suc, ◌+◌, ◌-◌, ◌*◌, ◌/◌, ◌≤◌, ◌<◌}
-use native.Mathlib.Nat.{le_of_eq}
 use native.Mathlib.Omega.{arith}
-use lib.Dec.{eqb, leb}
+use lib.Dec.{leb}
 use lib.ListN.{length, take, drop, replicate, length-append, length-drop}
-use lib.Seq.{take_all, take_at, drop_at, drop-drop, drop-append-le, take-append_seam}
+use lib.Seq.{take_at, drop_at, drop-drop, drop-append-le, take-append_seam}
 use borrow.Author.Tests.{leb-true, leb-false, le-leb, lt-leb, eq-eqb}
 use Rattle.answers.specs.Numbers.{DONE, BAD_KEY_LENGTH, BAD_STATE}
 use Rattle.answers.specs.Order.{unless, if_done}
@@ -25,19 +24,7 @@ use Rattle.cmac.specs.Inner.{Fills}
 use Rattle.cmac.specs.declared.Mac.{Mac}
 use Rattle.cmac.proofs.Chaining.{before_is, blocks-add, blocks-front, chained_append}
 
--- a function of what a call leaves
-pub done_after : {A B : Type 0} (f : A → B) (number : ℕ) (x y : A) → f (if_done number x y) ≡ if_done number (f x) (f y)
-done_after f number x y = go (eqb number 0)
-  where
-    go : (t : Bool) → f (cond t x y) ≡ cond t (f x) (f y)
-    go true = refl
-    go false = refl
-
 -- ---- what the code leaves
-
--- a part that goes to the end
-pub to_end : (n : ℕ) (m : List ℕ) → take (length m - n) (drop n m) ≡ drop n m
-to_end n m = take_all (length m - n) (drop n m) (le_of_eq (length-drop n m))
 
 pub past_short : (m : List ℕ) → length (past (before m) m) ≤ 16
 past_short m = let e : before m ≡ (length m - 1) / 16 = before_is m in rw length-drop (omega arith)
@@ -54,16 +41,6 @@ fills_little ws c m h n short counts holds =
       counts = counts ∙ ap (λ (k : ℕ). length (past k m)) (sym none);
       chains = ap (λ (k : ℕ). chained (encrypted_by ws) c (blocks k m)) (sym none);
       holds = holds ∙ ap (λ (k : ℕ). kept (past k m)) (sym none);
-    }
-
--- nothing held: all before the last chained, and the last held
-pub fills_all : (ws c m c' h : List ℕ) (done n : ℕ) → done ≡ 16 * before m → n ≡ length m - done → c' ≡ chained (encrypted_by ws) c (blocks (before m) m)
-    → h ≡ kept (take (length m - done) (drop done m)) → Fills ws c m n c' h
-fills_all ws c m c' h done n at counts chains holds =
-    record {
-      counts = counts ∙ ap (λ (k : ℕ). length m - k) at ∙ sym (length-drop (16 * before m) m);
-      chains = chains;
-      holds = holds ∙ ap kept (to_end done m ∙ ap (λ (k : ℕ). drop k m) at);
     }
 
 -- a block and more after it
@@ -106,6 +83,18 @@ pub fed_by : (s : Mac) (piece c h : List ℕ) (n : ℕ) → Fills s.words s.chai
     → record { words = s.words; chain = c; held = h; count = n } ≡ fed s piece
 unfolding fed
 fed_by s piece c h n f = λ i. record { words = s.words; chain = f.chains i; held = f.holds i; count = f.counts i }
+
+-- bytes that have room beside those held, and a block with more bytes after it
+pub fed_little : (s : Mac) (m h : List ℕ) (n : ℕ) → n ≤ 16 → n ≡ length (held_by s ++ m) → h ≡ kept (held_by s ++ m)
+    → record { words = s.words; chain = s.chain; held = h; count = n } ≡ fed s m
+fed_little s m h n room counts holds = fed_by s m s.chain h n (fills_little s.words s.chain (held_by s ++ m) h n (omega arith) counts holds)
+
+pub fed_more : (s : Mac) (m b rest h : List ℕ) → length b ≡ 16 → 0 < length rest → b ++ rest ≡ held_by s ++ m
+    → fed (record { words = s.words; chain = encrypted_by s.words (s.chain ⊕ b); held = h; count = 0 }) rest ≡ fed s m
+unfolding fed
+fed_more s m b rest h len some whole =
+    fed_by s m _ _ _
+    (fills_more s.words s.chain (encrypted_by s.words (s.chain ⊕ b)) b rest (held_by s ++ m) _ _ _ len some refl whole (record { counts = refl; chains = refl; holds = refl }))
 
 -- ---- two pieces are their concatenation
 
@@ -220,6 +209,15 @@ encrypted-key key = fun_ext (crossed-key 0 false key)
 started : {s : Mac} {n : ℕ} (key : List ℕ) → length key ≡ 16 → Starts key n s → s ≡ started_by (expanded key)
 unfolding expand_code
 started key len g = g.leaves ∙ if_done_lem (expand_code (length key) 80) (started_by (expanded key)) (started_by (replicate 80 0)) (ap (λ (n : ℕ). expand_code n 80) len)
+
+-- by a key of sixteen bytes a start is not refused, and neither is the piece after it
+pub start-done : (key : List ℕ) → length key ≡ 16 → expand_code (length key) 80 ≡ 0
+unfolding expand_code
+start-done key len = ap (λ (n : ℕ). expand_code n 80) len
+
+pub fresh-done : {s : Mac} {n : ℕ} (key : List ℕ) → length key ≡ 16 → Starts key n s → piece_code s.count ≡ 0
+unfolding started_by piece_code
+fresh-done key len g = ap (λ (t : Mac). piece_code t.count) (started key len g)
 
 nothing-fed : (ws : List ℕ) → started_by ws ≡ fed (started_by ws) []
 unfolding started_by fed zero_block block_count blocks chained

@@ -1,12 +1,9 @@
--- The numbers of a piece and of a state's tag: what one that is not refused claims, and how the two go together.
-use mathlib.Core.Path.{◌≡◌, refl, sym, ap, ◌∙◌}
-use mathlib.Core.Bool.{Bool, true, false}
-use mathlib.Core.Logic.{◌≢◌}
+-- The numbers of a piece and of a state's tag: what one that is not refused claims.
+use mathlib.Core.Path.{◌≡◌, refl}
 use Prim.Native.Nat.{ℕ, ◌≤◌}
 use lib.Dec.{eqb, leb}
 use borrow.Author.Tests.{leb-true, eqb-true}
 use Rattle.answers.specs.Numbers.{DONE, BAD_BLOCK_LENGTH, BAD_STATE}
-use Rattle.answers.specs.Order.{unless}
 use Rattle.answers.proofs.Passed.{passed}
 use Rattle.published.specs.Calls.{block_code}
 use Rattle.cmac_parts.specs.Orders.{piece_code, tag_code}
@@ -18,19 +15,6 @@ tag-passed count tag e =
     let p1 = passed (leb count 16) BAD_STATE _ refl e in
     let p2 = passed (eqb tag 16) BAD_BLOCK_LENGTH DONE refl p1.1 in
     (leb-true count 16 p1.0, eqb-true tag 16 p2.0)
-
--- the order of a tag is that of a piece, and then the tag's length
-pub tag-refused : (count tag r : ℕ) → r ≡ piece_code count → r ≢ 0 → r ≡ tag_code count tag
-unfolding piece_code tag_code
-tag-refused count tag r = go (leb count 16)
-  where
-    go : (t : Bool) → r ≡ unless t BAD_STATE DONE → r ≢ 0 → r ≡ unless t BAD_STATE (block_code tag)
-    go true e ne = absurd (ne e)
-    go false e ne = e
-
-pub tag-later : (count tag r : ℕ) → piece_code count ≡ 0 → r ≡ block_code tag → r ≡ tag_code count tag
-unfolding piece_code tag_code
-tag-later count tag r z e = e ∙ sym (ap (λ (t : Bool). unless t BAD_STATE (block_code tag)) (passed (leb count 16) BAD_STATE DONE refl z).0)
 
 pub piece-passed : (count : ℕ) → piece_code count ≡ 0 → count ≤ 16
 unfolding piece_code

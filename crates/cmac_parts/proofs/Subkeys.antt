@@ -1,70 +1,42 @@
--- A block shifted byte by byte is the block shifted as one number; so with R, as the code makes a subkey.
-use mathlib.Core.Path.{◌≡◌, refl, sym, ap, ap₂, ◌∙◌}
+-- A block read as one number, shifted and written; so with R, as the code makes a subkey.
+use mathlib.Core.Path.{◌≡◌, refl, sym, ap, ◌∙◌}
 use mathlib.Core.Bool.{Bool, cond}
 use mathlib.Core.List.{List, [], ◌∷◌}
 use mathlib.Core.Logic.{⊎_elim}
-use Prim.Native.Nat.{ℕ, zero, suc, ◌+◌, ◌-◌, ◌*◌, ◌/◌, ◌%◌, ◌^◌, ◌<◌}
-use native.Mathlib.Nat.{add-mul, mul_assoc, mul_comm, pow-suc, mod-eq_of_lt, add-mul-mod_self_right, eq-or-lt_of_le, le_of_suc-le-suc, not-suc-le-zero}
+use Prim.Native.Nat.{ℕ, zero, suc, ◌-◌, ◌*◌, ◌/◌, ◌%◌, ◌^◌, ◌<◌}
+use native.Mathlib.Nat.{div-one, eq-or-lt_of_le, le_of_suc-le-suc, not-suc-le-zero}
 use native.Mathlib.Omega.{arith}
 use lib.Bits.{bit_xor, xor_zero_r}
 use lib.Dec.{eqb, lit<}
 use lib.ListN.{length, get_or, set, replicate, length-set, length-replicate, get_or-replicate, get_or-append}
 use lib.Seq.{ext_get_or, get_or-set_same, get_or-set_other, set-get_or}
 use borrow.Author.Tests.{eq-eqb}
+use Rattle.std.specs.Int.{w128, from_be_bytes, to_be_bytes}
 use Rattle.bits.specs.Digit.{digit, bit}
 use Rattle.bits.proofs.Computed.{cond-true}
 use Rattle.published.specs.Bytes.{from_bytes, to_bytes, Bytes}
-use Rattle.published.proofs.Reading.{from_bytes-lt, length_to_bytes, to_from, bit-from_bytes}
+use Rattle.published.proofs.Listed.{each}
+use Rattle.published.proofs.Reading.{length_to_bytes, bit-from_bytes}
 use Rattle.cmac_parts.specs.Standard.{shifted, subkey, R128, first_bit, ◌⊕◌}
-use Rattle.cmac_parts.specs.Inner.{shifted_bytes, subkey_of}
+use Rattle.cmac_parts.specs.Inner.{subkey_of}
 use Rattle.cmac_parts.proofs.Xored.{length-⊕, get_or_⊕}
 
-pub length-shifted_bytes : (bs : List ℕ) → length (shifted_bytes bs) ≡ length bs
-unfolding shifted_bytes
-length-shifted_bytes [] = refl
-length-shifted_bytes (b ∷ bs) = ap suc (length-shifted_bytes bs)
+-- what the library reads from sixteen bytes and writes as such
+reads : (bs : List ℕ) → length bs ≡ 16 → from_be_bytes w128 bs ≡ from_bytes bs
+unfolding from_bytes
+reads = each 16 (λ bs. from_be_bytes w128 bs ≡ from_bytes bs) (λ _ _ _ _ _ _ _ _ _ _ _ _ _ _ _ _. omega arith)
 
-pub get_or_shifted_bytes : (bs : List ℕ) (i : ℕ) → get_or (shifted_bytes bs) i 0 ≡ get_or bs i 0 % 128 * 2 + get_or bs (suc i) 0 / 128
-unfolding shifted_bytes
-get_or_shifted_bytes [] i = refl
-get_or_shifted_bytes (b ∷ bs) zero = refl
-get_or_shifted_bytes (b ∷ bs) (suc i) = get_or_shifted_bytes bs i
+writes : (x : ℕ) → to_be_bytes w128 x ≡ to_bytes 16 x
+unfolding digit to_bytes
+writes x = rw div-one
 
--- the bit that is shifted out stands above
-doubled : (bs : List ℕ) → from_bytes (shifted_bytes bs) + get_or bs 0 0 / 128 * 256 ^ length bs ≡ 2 * from_bytes bs
-unfolding shifted_bytes from_bytes
-doubled [] = refl
-doubled (b ∷ bs) =
-    ap (λ (n : ℕ). (b % 128 * 2 + get_or bs 0 0 / 128) * 256 ^ n + from_bytes (shifted_bytes bs) + b / 128 * 256 ^ suc (length bs)) (length-shifted_bytes bs)
-    ∙ sums (256 ^ length bs) (from_bytes bs) (from_bytes (shifted_bytes bs)) (get_or bs 0 0 / 128) (256 ^ suc (length bs)) (pow-suc 256 (length bs)) (doubled bs)
-  where
-    atoms : (u v w f g a x y z : ℕ) → a ≡ x + v → x ≡ 2 * u → y ≡ w * 256 → z ≡ 128 * w + u → g + v ≡ 2 * f → a + g + y ≡ 2 * (z + f)
-    atoms u v w f g a x y z d1 d2 d3 d4 h = omega arith
-
-    sums : (p f g t q : ℕ) → q ≡ p * 256 → g + t * p ≡ 2 * f → (b % 128 * 2 + t) * p + g + b / 128 * q ≡ 2 * (b * p + f)
-    sums p f g t q e h =
-        let d1 : (b % 128 * 2 + t) * p ≡ b % 128 * 2 * p + t * p = add-mul (b % 128 * 2) t p in
-        let d2 : b % 128 * 2 * p ≡ 2 * (b % 128 * p) = ap (λ (x : ℕ). x * p) (mul_comm (b % 128) 2) ∙ mul_assoc 2 (b % 128) p in
-        let d3 : b / 128 * q ≡ b / 128 * p * 256 = ap (λ (x : ℕ). b / 128 * x) e ∙ sym (mul_assoc (b / 128) p 256) in
-        let whole : b ≡ 128 * (b / 128) + b % 128 = omega arith in
-        let d4 : b * p ≡ 128 * (b / 128 * p) + b % 128 * p =
-        ap (λ (x : ℕ). x * p) whole ∙ add-mul (128 * (b / 128)) (b % 128) p ∙ ap (λ (x : ℕ). x + b % 128 * p) (mul_assoc 128 (b / 128) p) in
-        atoms (b % 128 * p) (t * p) (b / 128 * p) f g _ _ _ _ d1 d2 d3 d4 h
-
-bytes_shifted : (bs : List ℕ) → Bytes bs → Bytes (shifted_bytes bs)
-bytes_shifted bs h i =
-    let a : get_or bs i 0 < 256 = h i in
-    let b : get_or bs (suc i) 0 < 256 = h (suc i) in
-    rw get_or_shifted_bytes (omega arith)
-
-pub shifted_is : (bs : List ℕ) → length bs ≡ 16 → Bytes bs → shifted_bytes bs ≡ shifted bs
+-- read, moved one place up, and written
+pub shifted_is : (bs : List ℕ) → length bs ≡ 16 → to_be_bytes w128 (from_be_bytes w128 bs * 2 ^ 1 % 2 ^ 128) ≡ shifted bs
 unfolding shifted
-shifted_is bs len h =
-    sym (to_from (shifted_bytes bs) (bytes_shifted bs h))
-    ∙ ap₂ to_bytes (length-shifted_bytes bs ∙ len) (cut _ _ _ (rw len at (doubled bs)) (rw (length-shifted_bytes, len) at (from_bytes-lt (shifted_bytes bs) (bytes_shifted bs h))))
+shifted_is bs len = writes _ ∙ ap (λ (n : ℕ). to_bytes 16 (n % 2 ^ 128)) (up (from_be_bytes w128 bs) (from_bytes bs) (reads bs len))
   where
-    cut : (g t f : ℕ) → g + t * 256 ^ 16 ≡ 2 * f → g < 256 ^ 16 → g ≡ 2 * f % 2 ^ 128
-    cut g t f e l = sym (mod-eq_of_lt l) ∙ sym (add-mul-mod_self_right g t (256 ^ 16)) ∙ ap (λ (x : ℕ). x % 2 ^ 128) e
+    up : (n m : ℕ) → n ≡ m → n * 2 ^ 1 ≡ 2 * m
+    up n m e = omega arith
 
 length-shifted : (x : List ℕ) → length (shifted x) ≡ 16
 unfolding shifted

@@ -1,90 +1,82 @@
-// What CMAC's calls are made of: the number that each gives, by lengths and the state's count, its refusals in the order that document 02 gives them; and the subkeys.
+// What CMAC's calls are made of: what each answers by lengths and the state's count, its refusals in the order that document 02 gives them; and the subkeys.
 #![tactic(auto)]
 
-ghost use Rattle.std.specs.Prelude.{◌≡◌, length, get_or};
+ghost use Rattle.std.specs.Prelude.{◌≡◌};
+ghost use Rattle.answers.specs.Refusals.{number};
 ghost use Rattle.published.specs.Calls.{block_code, key_code};
-ghost use Rattle.cmac_parts.specs.Standard.{shifted};
+ghost use Rattle.cmac_parts.specs.Standard.{shifted, subkey};
 ghost use Rattle.cmac_parts.specs.Orders.{piece_code, tag_code};
 ghost use Rattle.cmac_parts.specs.Inner.{subkey_of};
 
-use answers::{BAD_BLOCK_LENGTH, BAD_KEY_LENGTH, BAD_STATE, DONE};
+use answers::Refusal;
 
-// ---- the numbers
+// ---- the refusals
 
 // A tag that is lent: 2.
-fn length_code(tag: usize) -> u32
-    ensures { result ≡ block_code tag }
+#[tactic(auto, unfolding(published::specs::Calls::block_code))]
+fn length_code(tag: usize) -> Result<(), Refusal>
+    ensures { number result ≡ block_code tag }
 {
     if tag != 16 {
-        return BAD_BLOCK_LENGTH;
+        return Err(Refusal::BadBlockLength);
     }
-    DONE
+    Ok(())
 }
 
 // A whole message, and a check: 1, 2.
-pub fn key_code(key: usize, tag: usize) -> u32
-    ensures { result ≡ key_code key tag }
+#[tactic(auto, unfolding(published::specs::Calls::key_code))]
+pub fn key_code(key: usize, tag: usize) -> Result<(), Refusal>
+    ensures { number result ≡ key_code key tag }
 {
     if key != 16 {
-        return BAD_KEY_LENGTH;
+        return Err(Refusal::BadKeyLength);
     }
     length_code(tag)
 }
 
 // A piece: 10.
-pub fn piece_code(count: u32) -> u32
-    ensures { result ≡ piece_code count }
+#[tactic(auto, unfolding(crate::specs::Orders::piece_code))]
+pub fn piece_code(count: u32) -> Result<(), Refusal>
+    ensures { number result ≡ piece_code count }
 {
     if 16 < count {
-        return BAD_STATE;
+        return Err(Refusal::BadState);
     }
-    DONE
+    Ok(())
 }
 
 // The tag of a state: 10, 2.
-pub fn tag_code(count: u32, tag: usize) -> u32
-    ensures { result ≡ tag_code count tag }
+#[tactic(auto, unfolding(crate::specs::Orders::piece_code, crate::specs::Orders::tag_code))]
+pub fn tag_code(count: u32, tag: usize) -> Result<(), Refusal>
+    ensures { number result ≡ tag_code count tag }
 {
-    let code = piece_code(count);
-    if code != DONE {
-        return code;
-    }
+    piece_code(count)?;
     length_code(tag)
 }
 
 // ---- the subkeys
 
-// The byte at a place, and 0 past the end.
-pub fn byte_at(bytes: &[u8], i: usize) -> u8
-    ensures { result ≡ get_or bytes.now i 0 }
-{
-    if i < bytes.len() {
-        return bytes[i];
-    }
-    0
-}
-
 // All bits one place up.
-fn shift(block: &mut [u8])
-    requires { length block.old ≡ 16 }
-    ensures { block.new ≡ shifted block.old }
+fn shift(block: [u8; 16]) -> [u8; 16]
+    ensures { result ≡ shifted block }
 {
-    let mut i: usize = 0;
-    while i < 16 {
-        let next = byte_at(block, i + 1);
-        block[i] = block[i] % 128 * 2 + next / 128;
-        i += 1;
-    }
+    (u128::from_be_bytes(block) << 1).to_be_bytes()
 }
 
-// K1 from L, and K2 from K1; another length than 16 is left as it is.
+// K1 from L, and K2 from K1. No test of the bit that is shifted out, since the blocks are secret.
+fn next(block: [u8; 16]) -> [u8; 16]
+    ensures { result ≡ subkey block }
+{
+    let mut key = shift(block);
+    key[15] ^= block[0] / 128 * 135;
+    key
+}
+
+// The next subkey in the place of a block; another length than 16 is left as it is.
 pub fn double(block: &mut [u8])
     ensures { block.new ≡ subkey_of block.old }
 {
-    if block.len() != 16 {
-        return;
+    if let Ok(own) = <[u8; 16]>::try_from(&*block) {
+        block.copy_from_slice(&next(own));
     }
-    let first = block[0] / 128;
-    shift(block);
-    block[15] = block[15] ^ (first * 135);
 }

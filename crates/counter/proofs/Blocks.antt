@@ -1,12 +1,15 @@
 -- The key stream's blocks, one after the other.
 use mathlib.Core.Path.{◌≡◌, refl, sym, ap, ap₂, ◌∙◌}
-use mathlib.Core.List.{List, [], ◌++◌, append_assoc, append-nil}
-use Prim.Native.Nat.{ℕ, zero, suc, ◌+◌, ◌*◌, ◌/◌, ◌%◌, ◌≤◌}
+use mathlib.Core.List.{List, [], ◌∷◌, ◌++◌, append_assoc, append-nil}
+use Prim.Native.Nat.{ℕ, zero, suc, ◌+◌, ◌*◌, ◌/◌, ◌%◌, ◌^◌, ◌≤◌}
 use native.Mathlib.Omega.{arith}
-use native.Mathlib.Nat.{le_of_eq}
-use lib.ListN.{length, take, drop, length-append, length-take, drop_of_length-le}
-use lib.Seq.{take-append-add, take-append_seam, take_at, drop_at, drop-drop}
-use borrow.Rule.Slice.PartMut.{put_mid, post_of}
+use native.Mathlib.Nat.{div-one}
+use native.Mathlib.Numerals.{add-one}
+use lib.ListN.{length, take, drop, length-append, length-take}
+use lib.Seq.{take-append-add, take-append_seam, take_at, drop_at}
+use borrow.Rule.Slice.PartMut.{put_mid}
+use Rattle.std.specs.Int.{to_be_bytes, w32}
+use Rattle.bits.specs.Digit.{digit}
 use Rattle.published.specs.Bytes.{to_bytes}
 use Rattle.published.proofs.Reading.{length_to_bytes}
 use Rattle.gift128.specs.Calls.{encrypted_by}
@@ -44,23 +47,40 @@ length-blocks w o c (suc k) =
     next : 16 + 16 * k ≡ 16 * suc k
     next = omega arith
 
+-- a counter's four bytes, the first the most significant
+pub four_bytes : (c : ℕ) → to_be_bytes w32 (c % 4294967296) ≡ to_bytes 4 c
+unfolding to_bytes digit
+four_bytes c = λ i. a i ∷ b i ∷ d i ∷ e i ∷ []
+  where
+    a : c % 4294967296 / 256 ^ 3 % 256 ≡ c / 256 ^ 3 % 256
+    a = omega arith
+
+    b : c % 4294967296 / 256 ^ 2 % 256 ≡ c / 256 ^ 2 % 256
+    b = omega arith
+
+    d : c % 4294967296 / 256 ^ 1 % 256 ≡ c / 256 ^ 1 % 256
+    d = omega arith
+
+    e : c % 4294967296 % 256 ≡ c / 256 ^ 0 % 256
+    e = rw div-one (omega arith)
+
 -- twelve bytes and then four, put into a block
-pub laid : (o block x y : List ℕ) (c : ℕ) → length o ≡ 12 → length block ≡ 16 → x ≡ o → y ≡ to_bytes 4 c → put_mid 12 4 (x ++ post_of 0 12 block) y ≡ counter_block o c
+pub laid : (o x y : List ℕ) (c : ℕ) → length o ≡ 12 → x ≡ o → y ≡ to_be_bytes w32 (c % 4294967296) → put_mid 12 4 (x ++ 0 ∷ 0 ∷ 0 ∷ 0 ∷ []) y ≡ counter_block o c
 unfolding counter_block
-laid o block x y c lo lb ex ey =
-    ap₂ (λ (f e : List ℕ). put_mid 12 4 (f ++ post_of 0 12 block) e) ex ey
-    ∙ ap₂ (λ (f e : List ℕ). f ++ (to_bytes 4 c ++ e)) (take_at o (drop 12 block) 12 lo) (ap (drop 4) (drop_at o (drop 12 block) 12 lo) ∙ drop-drop 4 12 block ∙ drop_of_length-le block (le_of_eq lb))
+laid o x y c lo ex ey =
+    ap₂ (λ (f e : List ℕ). put_mid 12 4 (f ++ 0 ∷ 0 ∷ 0 ∷ 0 ∷ []) e) ex (ey ∙ four_bytes c)
+    ∙ ap₂ (λ (f e : List ℕ). f ++ (to_bytes 4 c ++ e)) (take_at o (0 ∷ 0 ∷ 0 ∷ 0 ∷ []) 12 lo) (ap (drop 4) (drop_at o (0 ∷ 0 ∷ 0 ∷ 0 ∷ []) 12 lo))
     ∙ ap (λ (e : List ℕ). o ++ e) (append-nil (to_bytes 4 c))
 
--- the block at place a was written: those before a + 16 are
-pub one_more : (f : List ℕ → List ℕ) (o out new rest : List ℕ) (c a : ℕ) → a % 16 ≡ 0 → a ≤ length out → length new ≡ 16
-    → take a out ≡ key_blocks f o c (a / 16) → new ≡ f (counter_block o (c + a / 16)) → take (a + 16) (take a out ++ (new ++ rest)) ≡ key_blocks f o c ((a + 16) / 16)
-one_more f o out new rest c a h l len before here =
-    let front : length (take a out) ≡ a = rw length-take (omega arith) in
-    let next : suc (a / 16) ≡ (a + 16) / 16 = omega arith in
-    ap (λ (m : ℕ). take m (take a out ++ (new ++ rest))) (ap₂ ◌+◌ (sym front) (sym len))
-    ∙ take-append-add (take a out) (new ++ rest) (length new)
-    ∙ ap (λ (l : List ℕ). take a out ++ l) (take-append_seam new rest)
+-- the block of the counter after k was written: the first k + 1 are
+pub one_more : (f : List ℕ → List ℕ) (o out new rest : List ℕ) (c k : ℕ) → 16 * k ≤ length out → length new ≡ 16
+    → take (16 * k) out ≡ key_blocks f o c k → new ≡ f (counter_block o (c + k)) → take (16 * (k + 1)) (take (16 * k) out ++ (new ++ rest)) ≡ key_blocks f o c (k + 1)
+one_more f o out new rest c k l len before here =
+    let front : length (take (16 * k) out) ≡ 16 * k = rw length-take (omega arith) in
+    let ahead : 16 * (k + 1) ≡ length (take (16 * k) out) + length new = omega arith in
+    ap (λ (m : ℕ). take m (take (16 * k) out ++ (new ++ rest))) ahead
+    ∙ take-append-add (take (16 * k) out) (new ++ rest) (length new)
+    ∙ ap (λ (l : List ℕ). take (16 * k) out ++ l) (take-append_seam new rest)
     ∙ ap₂ ◌++◌ before here
-    ∙ sym (blocks_more f o c (a / 16))
-    ∙ ap (key_blocks f o c) next
+    ∙ sym (blocks_more f o c k)
+    ∙ ap (key_blocks f o c) (sym (add-one k))

@@ -7,7 +7,6 @@ use native.Mathlib.Omega.{arith}
 use lib.ListN.{length, take, drop, length-append, length-take, length-drop}
 use lib.Seq.{take_at, drop_at}
 use borrow.Author.Tests.{eq-eqb}
-use borrow.Rule.Slice.PartMut.{put_mid}
 use Rattle.published.specs.Bytes.{to_bytes}
 use Rattle.published.specs.Blocks.{each_of, all_of}
 use Rattle.published.proofs.Many.{written}
@@ -77,15 +76,8 @@ several_more f o out counts new rest c a n twelve ha hn inside len before are ma
     ∙ ap (key_blocks f o c) sum
 
 -- the first n of some bytes, and n from a place on
-pub first_of : (l : List ℕ) (n : ℕ) → n ≤ length l → length (take (n - 0) l) ≡ n
+pub first_of : (l : List ℕ) (n : ℕ) → n ≤ length l → length (take n l) ≡ n
 first_of l n h = simp length-take (omega arith)
 
 pub some_of : (l : List ℕ) (a n : ℕ) → a + n ≤ length l → length (take (a + n - a) (drop a l)) ≡ n
 some_of l a n h = simp (length-take, length-drop) (omega arith)
-
--- what was put in front is found there
-pub in_front : (l new : List ℕ) (n : ℕ) → length new ≡ n → take (n - 0) (put_mid 0 (n - 0) l new) ≡ new
-in_front l new n len = take_at new (drop (n - 0) l) (n - 0) (len ∙ none)
-  where
-    none : n ≡ n - 0
-    none = omega arith

@@ -5,20 +5,19 @@ use mathlib.Core.List.{List, [], ◌∷◌, ◌++◌, append-nil}
 use Prim.Native.Nat.{ℕ, suc, ◌+◌, ◌-◌, ◌*◌, ◌/◌, ◌%◌, ◌≤◌, ◌<◌}
 use native.Mathlib.Nat.{suc-ne-zero, le_of_eq}
 use native.Mathlib.Omega.{arith}
-use lib.Dec.{eqb, leb}
+use lib.Dec.{eqb}
 use lib.ListN.{length, take, drop, length-append, length-take, length-drop, drop_of_length-le}
 use lib.Seq.{take_all, take_at, take-append-add}
-use borrow.Author.Tests.{eq-eqb, ne_eqb, eqb-true, eqb-false, le-leb, lt-leb}
-use borrow.Rule.Slice.PartMut.{put_mid, post_of}
-use Rattle.bits.proofs.Computed.{cond-true, cond-false}
+use borrow.Author.Tests.{eqb-true, eqb-false}
+use borrow.Rule.Slice.PartMut.{put_mid}
 use Rattle.gift128.specs.Calls.{encrypted_by}
 use Rattle.counter_orders.specs.Orders.{counters, needed, left}
 use Rattle.counter.specs.declared.Stream.{Stream}
-use Rattle.counter.specs.declared.Place.{Place}
+use Rattle.counter_orders.specs.declared.Place.{Place}
 use Rattle.counter.specs.Standard.{◌⊕◌, key_blocks}
 use Rattle.counter.specs.Steps.{zero_block, after}
 use Rattle.counter.specs.Calls.{Left, fed}
-use Rattle.counter.specs.Inner.{new_bytes, new_block, moved, LastBytes, NewBytes, MoreBytes, KeyBytes}
+use Rattle.counter.specs.Inner.{new_bytes, moved, LastBytes, NewBytes, KeyBytes}
 use Rattle.counter.proofs.Blocks.{blocks_more, length-blocks}
 use Rattle.counter.proofs.Jumping.{E, jump_bytes, jump_state}
 
@@ -29,9 +28,9 @@ empty (x ∷ l) e = absurd (suc-ne-zero (length l) e)
 -- ---- what was written after a front that was lent, and the length of that part
 
 abbrev joined : (out front : List ℕ) → ℕ → List ℕ
-joined out front a = front ++ post_of 0 (a - 0) out
+joined out front a = front ++ drop a out
 
-module _ (out front : List ℕ) (a : ℕ) (fits : a ≤ length out) (long : length front ≡ length (take (a - 0) out)) where
+module _ (out front : List ℕ) (a : ℕ) (fits : a ≤ length out) (long : length front ≡ length (take a out)) where
   pub front_long : length front ≡ a
   front_long = long ∙ rw length-take (omega arith)
 
@@ -40,29 +39,10 @@ module _ (out front : List ℕ) (a : ℕ) (fits : a ≤ length out) (long : leng
 
   pub placed : (new : List ℕ) → put_mid a (length (joined out front a) - a) (joined out front a) new ≡ front ++ new
   placed new =
-      ap₂ (λ (f e : List ℕ). f ++ (new ++ e)) (take_at front (post_of 0 (a - 0) out) a front_long) (drop_of_length-le (drop a (joined out front a)) (le_of_eq (length-drop a (joined out front a))))
+      ap₂ (λ (f e : List ℕ). f ++ (new ++ e)) (take_at front (drop a out) a front_long) (drop_of_length-le (drop a (joined out front a)) (le_of_eq (length-drop a (joined out front a))))
       ∙ ap (λ (l : List ℕ). front ++ l) (append-nil new)
 
 module _ (w o : List ℕ) (c : ℕ) (block : List ℕ) where
-  -- ---- the start of a block
-
-  pub last_none : (out : List ℕ) → length out ≡ 0 → LastBytes w o c block (length out) block out
-  last_none out e =
-      record {
-        keeps = sym (cond-true (eqb (length out) 0) block (E w o c) (eq-eqb (length out) 0 e));
-        gives = empty out e ∙ sym (ap (λ (n : ℕ). take n (E w o c)) e);
-      }
-
-  pub last_some : (out b r : List ℕ) → (length out ≡ 0 → ⊥) → b ≡ E w o c → r ≡ take (length out - 0) b → LastBytes w o c block (length out) b r
-  last_some out b r some eb er =
-      record {
-        keeps = eb ∙ sym (cond-false (eqb (length out) 0) block (E w o c) (ne_eqb (length out) 0 some));
-        gives = er ∙ ap₂ take same eb;
-      }
-    where
-      same : length out - 0 ≡ length out
-      same = omega arith
-
   -- ---- whole blocks, and the start of one more
 
   whole_and_rest : (n : ℕ) → key_blocks (encrypted_by w) o c (n / 16) ++ take (n % 16) (E w o (c + n / 16)) ≡ new_bytes w o c n
@@ -83,8 +63,8 @@ module _ (w o : List ℕ) (c : ℕ) (block : List ℕ) where
           sym (take-append-add (key_blocks (encrypted_by w) o c (n / 16)) (E w o (c + n / 16)) (n % 16))
           ∙ ap₂ take sum (sym (blocks_more (encrypted_by w) o c (n / 16)) ∙ ap (key_blocks (encrypted_by w) o c) q)
 
-  pub new_is : (out k b l : List ℕ) (long : length k ≡ length (take (length out - length out % 16 - 0) out))
-      → k ≡ key_blocks (encrypted_by w) o c (length (take (length out - length out % 16 - 0) out) / 16)
+  pub new_is : (out k b l : List ℕ) (long : length k ≡ length (take (length out - length out % 16) out))
+      → k ≡ key_blocks (encrypted_by w) o c (length (take (length out - length out % 16) out) / 16)
       → LastBytes w o (c + (length out - length out % 16) / 16) block (length (take (length (joined out k (length out - length out % 16)) - (length out - length out % 16)) (drop (length out - length out % 16) (joined out k (length out - length out % 16))))) b l
       → NewBytes w o c block (length out) b (put_mid (length out - length out % 16) (length (joined out k (length out - length out % 16)) - (length out - length out % 16)) (joined out k (length out - length out % 16)) l)
   new_is out k b l long ek lasts =
@@ -108,37 +88,6 @@ module _ (w o : List ℕ) (c : ℕ) (block : List ℕ) where
 
       blocks : a / 16 ≡ length out / 16
       blocks = omega arith
-
-  -- ---- after the unused bytes
-
-  pub more_is : (u : ℕ) (out k b l : List ℕ) (fits : u ≤ length out) → u ≤ 15 → length block ≡ 16 → (long : length k ≡ length (take (u - 0) out)) → k ≡ take (16 - (16 - u)) (drop (16 - u) block)
-      → NewBytes w o c block (length (take (length (joined out k u) - u) (drop u (joined out k u)))) b l
-      → MoreBytes w o c u block (length out) b (put_mid u (length (joined out k u) - u) (joined out k u) l)
-  more_is u out k b l fits h len long ek news =
-      record {
-        keeps = news.keeps ∙ ap (new_block w o c block) (part-long out k u fits long);
-        gives = placed out k u fits long l ∙ ap₂ ◌++◌ (ek ∙ take_all (16 - (16 - u)) (drop (16 - u) block) (simp length-drop (omega arith))) (news.gives ∙ ap (new_bytes w o c) (part-long out k u fits long));
-      }
-
-  -- ---- from any place
-
-  pub key-few : (u : ℕ) (out r : List ℕ) → length out ≤ u → r ≡ take (16 - u + length out - (16 - u)) (drop (16 - u) block) → KeyBytes w o c u block (length out) block r
-  key-few u out r h er =
-      record {
-        keeps = sym (cond-true (leb (length out) u) block (new_block w o c block (length out - u)) (le-leb (length out) u h));
-        gives = er ∙ ap (λ (n : ℕ). take n (drop (16 - u) block)) same
-            ∙ sym (cond-true (leb (length out) u) (take (length out) (drop (16 - u) block)) (drop (16 - u) block ++ new_bytes w o c (length out - u)) (le-leb (length out) u h));
-      }
-    where
-      same : 16 - u + length out - (16 - u) ≡ length out
-      same = omega arith
-
-  pub key-many : (u n : ℕ) (b r : List ℕ) → u < n → MoreBytes w o c u block n b r → KeyBytes w o c u block n b r
-  key-many u n b r h m =
-      record {
-        keeps = m.keeps ∙ sym (cond-false (leb n u) block (new_block w o c block (n - u)) (lt-leb n u h));
-        gives = m.gives ∙ sym (cond-false (leb n u) (take n (drop (16 - u) block)) (drop (16 - u) block ++ new_bytes w o c (n - u)) (lt-leb n u h));
-      }
 
 -- ---- a piece
 

@@ -2,7 +2,8 @@
 use Rattle.std.specs.Prelude.{◌≡◌, cond, List, ◌++◌, ℕ, ◌+◌, ◌-◌, ◌*◌, ◌/◌, ◌%◌, eqb, leb, take, drop}
 use Rattle.gift128.specs.Calls.{encrypted_by}
 use Rattle.counter_orders.specs.Orders.{counters, needed}
-use Rattle.counter.specs.declared.Place.{Place}
+use Rattle.counter_orders.specs.declared.Place.{Place}
+use Rattle.counter.specs.declared.Stream.{Stream}
 use Rattle.counter.specs.Standard.{counter_block, key_blocks}
 
 -- n bytes of new blocks, from the counter c on
@@ -38,7 +39,10 @@ pub record KeyBytes (words nonce : List ℕ) (c unused : ℕ) (block : List ℕ)
   pub keeps : b ≡ block_from words nonce c unused block n
   pub gives : out ≡ bytes_from words nonce c unused block n
 
--- the numbers of a stream after n bytes
+-- the numbers of a stream that move, and after n bytes
+abbrev pub place_of : Stream → Place
+place_of s = record { counter = s.counter; unused = s.unused; spent = s.spent }
+
 unfoldable pub moved : Place → ℕ → Place
 moved p n =
     let q : ℕ = needed p.unused n in

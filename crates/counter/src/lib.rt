@@ -1,17 +1,19 @@
 // Counter mode of NIST SP 800-38A over GIFT-128, fed in pieces of any length to a stream that the caller keeps.
 #![tactic(auto)]
 
-ghost use Rattle.std.specs.Prelude.{◌≡◌, cond, ◌+◌, ◌*◌, ◌/◌, ◌%◌, ◌^◌, ◌<◌, ◌≤◌, eqb, length};
+ghost use Rattle.std.specs.Prelude.{◌≡◌, cond, ◌/◌, ◌%◌, ◌^◌, ◌<◌, ◌≤◌, eqb, length};
+ghost use Rattle.std.specs.Result.{result_unwrap_or};
+ghost use Rattle.answers.specs.Refusals.{number};
 ghost use Rattle.published.specs.Bytes.{to_bytes};
 ghost use Rattle.gift128.specs.Calls.{encrypted_by};
 ghost use Rattle.counter_orders.specs.Orders.{counters, needed};
 ghost use Rattle.counter.specs.Standard.{◌⊕◌, counter_block, key_blocks};
 ghost use Rattle.counter.specs.Steps.{zero_block};
-ghost use Rattle.counter.specs.Calls.{Starts, Feeds};
-ghost use Rattle.counter.specs.Inner.{LastBytes, NewBytes, MoreBytes, KeyBytes, moved};
+ghost use Rattle.counter.specs.Calls.{no_stream, Starts, Feeds};
+ghost use Rattle.counter.specs.Inner.{LastBytes, NewBytes, MoreBytes, KeyBytes, place_of, moved};
 
-use answers::DONE;
-use counter_orders::{blocks_needed, piece_code, start_code};
+use answers::{Refusal, number};
+use counter_orders::{Place, start_code};
 use gift128::{encrypt_blocks_by_words, encrypt_by_words};
 use key_schedule::precompute_rkeys;
 use packing::NUMBER;
@@ -19,6 +21,7 @@ use packing::NUMBER;
 // What is kept between pieces: the cipher's round words, the caller's twelve bytes, the next counter, the block of the key stream that was made
 // last, how many of its bytes, 0 to 15, are not used yet, and whether the last counter is used (not if 0). There is one such state for each
 // position: where no byte is unused the block is zero, and where the stream is spent the counter is 0. No byte of the record is padding.
+// Stays: `spent` beside the counter, and the block beside how much of it is unused, are the C interface (gift_stream), whose record may hold any numbers; so 15 is asked again below.
 #[repr(C)]
 #[derive(Clone, Copy)]
 pub struct Stream {
@@ -30,7 +33,7 @@ pub struct Stream {
     pub spent: u32,
 }
 
-// What starting answers.
+// What starting answers C.
 #[repr(C)]
 #[derive(Clone, Copy)]
 pub struct Started {
@@ -38,32 +41,24 @@ pub struct Started {
     pub stream: Stream,
 }
 
-// What a piece answers.
-#[repr(C)]
-#[derive(Clone, Copy)]
-pub struct Fed {
-    pub code: u32,
-    pub stream: Stream,
-}
+impl From<Result<Stream, Refusal>> for Started {
+    ghost from_gives = { λ answer s. (s.code ≡ number answer) × (s.stream ≡ result_unwrap_or answer no_stream) };
 
-// The numbers of a stream that move.
-#[derive(Clone, Copy)]
-struct Place {
-    counter: u32,
-    unused: u32,
-    spent: u32,
-}
-
-// ---- bytes
-
-fn copy(from: &[u8], to: &mut [u8])
-    requires { length from.now ≡ length to.old }
-    ensures { to.new ≡ from.now }
-{
-    let mut i: usize = 0;
-    while i < to.len() {
-        to[i] = from[i];
-        i += 1;
+    // After a refusal the stream is all zero and spent.
+    #[tactic(auto, unfolding(crate::specs::Calls::no_stream))]
+    fn from(answer: Result<Stream, Refusal>) -> Started {
+        let none = Stream {
+            words: [0; 80],
+            nonce: [0; 12],
+            counter: 0,
+            block: [0; 16],
+            unused: 0,
+            spent: 1,
+        };
+        Started {
+            code: number(answer),
+            stream: answer.unwrap_or(none),
+        }
     }
 }
 
@@ -71,190 +66,141 @@ fn mix(input: &[u8], output: &mut [u8])
     requires { length input.now ≡ length output.old }
     ensures { output.new ≡ input.now ⊕ output.old }
 {
-    let mut i: usize = 0;
-    while i < output.len() {
-        output[i] = input[i] ^ output[i];
-        i += 1;
+    // Stays an index: tried `output.iter_mut().zip(input)`, after which a proof knows no byte of the output.
+    for (i, b) in output.iter_mut().enumerate() {
+        *b ^= input[i];
     }
 }
 
 // ---- the key stream
 
-fn counter_bytes(counter: usize) -> [u8; 4]
-    ensures { result ≡ to_bytes 4 counter }
+fn counter_block(nonce: &[u8; 12], counter: usize) -> [u8; 16]
+    ensures { result ≡ counter_block nonce.now counter }
 {
-    [
-        ((counter >> 24) % 256) as u8,
-        ((counter >> 16) % 256) as u8,
-        ((counter >> 8) % 256) as u8,
-        (counter % 256) as u8,
-    ]
-}
-
-fn counter_block(nonce: &[u8], counter: usize, block: &mut [u8])
-    requires nonce_len { length nonce.now ≡ 12 }
-    requires block_len { length block.old ≡ 16 }
-    ensures { block.new ≡ counter_block nonce.now counter }
-{
-    let four = counter_bytes(counter);
-    copy(nonce, &mut block[0..12]);
-    copy(&four, &mut block[12..16]);
-}
-
-fn key_block(words: &[u32], nonce: &[u8], counter: usize, block: &mut [u8])
-    requires words_len { length words.now ≡ 80 }
-    requires nonce_len { length nonce.now ≡ 12 }
-    requires block_len { length block.old ≡ 16 }
-    ensures { block.new ≡ encrypted_by words.now (counter_block nonce.now counter) }
-{
-    counter_block(nonce, counter, block);
-    encrypt_by_words(NUMBER, words, block);
+    let four = ((counter % 4294967296) as u32).to_be_bytes();
+    let mut block = [0u8; 16];
+    block[..12].copy_from_slice(nonce);
+    block[12..].copy_from_slice(&four);
+    block
 }
 
 // Counter blocks, as many as there is room for.
-fn counter_blocks(nonce: &[u8], counter: usize, blocks: &mut [u8])
-    requires nonce_len { length nonce.now ≡ 12 }
+fn counter_blocks(nonce: &[u8; 12], counter: usize, blocks: &mut [u8])
     requires counter_bound { counter < 2 ^ 61 }
     requires blocks_len { length blocks.old % 16 ≡ 0 }
     ensures { blocks.new ≡ key_blocks (λ t. t) nonce.now counter (length blocks.old / 16) }
 {
-    let mut a: usize = 0;
-    while a < blocks.len() {
-        let e = a + 16;
-        counter_block(nonce, counter + a / 16, &mut blocks[a..e]);
-        a = e;
+    // Stays an index: tried `blocks.chunks_exact_mut(16).enumerate()`, after which a proof knows no byte of the blocks.
+    for k in 0..blocks.len() / 16 {
+        let a = 16 * k;
+        let block = counter_block(nonce, counter + k);
+        blocks[a..a + 16].copy_from_slice(&block);
     }
 }
 
-// How many bytes of key stream are made at once: all that are left, and no more than there is room for.
-fn at_once(left: usize, room: usize) -> usize
-    requires left_nonzero { (0 < left) × (left % 16 ≡ 0) }
-    requires room_nonzero { (0 < room) × (room % 16 ≡ 0) }
-    ensures { (0 < result) × (result % 16 ≡ 0) × (result ≤ left) × (result ≤ room) }
-{
-    if left < room {
-        return left;
+impl Stream {
+    // The numbers that move.
+    fn place(&self) -> Place
+        ensures { result ≡ place_of self.now }
+    {
+        Place {
+            counter: self.counter,
+            unused: self.unused,
+            spent: self.spent,
+        }
     }
-    room
-}
 
-// Whole blocks, as many as there is room for: counter blocks side by side in a buffer that is lent, and those through the cipher's call on many blocks.
-fn key_blocks_by(words: &[u32], nonce: &[u8], counter: usize, blocks: &mut [u8], output: &mut [u8])
-    requires words_len { length words.now ≡ 80 }
-    requires nonce_len { length nonce.now ≡ 12 }
-    requires counter_lt_counters { counter < counters }
-    requires blocks_nonzero { (0 < length blocks.old) × (length blocks.old % 16 ≡ 0) }
-    requires output_len { length output.old % 16 ≡ 0 }
-    ensures { output.new ≡ key_blocks (encrypted_by words.now) nonce.now counter (length output.old / 16) }
-{
-    let mut a: usize = 0;
-    while a < output.len() {
-        let n = at_once(output.len() - a, blocks.len());
-        let e = a + n;
-        counter_blocks(nonce, counter + a / 16, &mut blocks[0..n]);
-        encrypt_blocks_by_words(NUMBER, words, &blocks[0..n], &mut output[a..e]);
-        a = e;
+    // The block of a counter.
+    fn key_block(&self, counter: usize) -> [u8; 16]
+        ensures { result ≡ encrypted_by self.now.words (counter_block self.now.nonce counter) }
+    {
+        let mut block = counter_block(&self.nonce, counter);
+        let _ = encrypt_by_words(NUMBER, &self.words, &mut block);
+        block
     }
-}
 
-// By a small buffer while the cipher goes through its blocks eight at once, and by a larger one where it takes sixty-four: five times as many, since it makes
-// masks of the words anew for each buffer.
-fn key_blocks(words: &[u32], nonce: &[u8], counter: usize, output: &mut [u8])
-    requires words_len { length words.now ≡ 80 }
-    requires nonce_len { length nonce.now ≡ 12 }
-    requires counter_lt_counters { counter < counters }
-    requires output_len { length output.old % 16 ≡ 0 }
-    ensures { output.new ≡ key_blocks (encrypted_by words.now) nonce.now counter (length output.old / 16) }
-{
-    if output.len() < 1024 {
-        let mut few = [0u8; 512];
-        key_blocks_by(words, nonce, counter, &mut few, output);
-        return;
+    // Whole blocks, as many as there is room for: counter blocks side by side in a buffer that is lent, and those through the cipher's call on many blocks.
+    fn key_blocks_by(&self, blocks: &mut [u8], output: &mut [u8])
+        requires blocks_nonzero { (0 < length blocks.old) × (length blocks.old % 16 ≡ 0) }
+        requires output_len { length output.old % 16 ≡ 0 }
+        ensures { output.new ≡ key_blocks (encrypted_by self.now.words) self.now.nonce self.now.counter (length output.old / 16) }
+    {
+        // Stays an index: of `chunks_mut` and `as_chunks_mut` a proof knows no byte that was written (tried in `counter_blocks`).
+        let mut a: usize = 0;
+        while a < output.len() {
+            let n = blocks.len().min(output.len() - a);
+            let e = a + n;
+            counter_blocks(
+                &self.nonce,
+                self.counter as usize + a / 16,
+                &mut blocks[..n],
+            );
+            let _ = encrypt_blocks_by_words(NUMBER, &self.words, &blocks[..n], &mut output[a..e]);
+            a = e;
+        }
     }
-    let mut many = [0u8; 5120];
-    key_blocks_by(words, nonce, counter, &mut many, output);
-}
 
-// The start of a block, less than all of it. The block stays; none is made for no bytes.
-fn last_bytes(words: &[u32], nonce: &[u8], counter: usize, block: &mut [u8], output: &mut [u8])
-    requires words_len { length words.now ≡ 80 }
-    requires nonce_len { length nonce.now ≡ 12 }
-    requires block_len { length block.old ≡ 16 }
-    requires output_len_bound { length output.old < 16 }
-    ensures { LastBytes words.now nonce.now counter block.old (length output.old) block.new output.new }
-{
-    let n = output.len();
-    if n == 0 {
-        return;
+    // By a small buffer while the cipher goes through its blocks eight at once, and by a larger one where it takes sixty-four: five times as many, since it makes
+    // masks of the words anew for each buffer.
+    fn key_blocks(&self, output: &mut [u8])
+        requires { length output.old % 16 ≡ 0 }
+        ensures { output.new ≡ key_blocks (encrypted_by self.now.words) self.now.nonce self.now.counter (length output.old / 16) }
+    {
+        if output.len() < 1024 {
+            let mut few = [0u8; 512];
+            self.key_blocks_by(&mut few, output);
+            return;
+        }
+        let mut many = [0u8; 5120];
+        self.key_blocks_by(&mut many, output);
     }
-    key_block(words, nonce, counter, block);
-    copy(&block[0..n], output);
-}
 
-// New bytes: whole blocks first.
-fn new_bytes(words: &[u32], nonce: &[u8], counter: usize, block: &mut [u8], output: &mut [u8])
-    requires words_len { length words.now ≡ 80 }
-    requires nonce_len { length nonce.now ≡ 12 }
-    requires counter_lt_counters { counter < counters }
-    requires block_len { length block.old ≡ 16 }
-    ensures { NewBytes words.now nonce.now counter block.old (length output.old) block.new output.new }
-{
-    let whole = output.len() - output.len() % 16;
-    key_blocks(words, nonce, counter, &mut output[0..whole]);
-    last_bytes(
-        words,
-        nonce,
-        counter + whole / 16,
-        block,
-        &mut output[whole..],
-    );
-}
-
-// The unused bytes, and new ones after them.
-fn more_bytes(
-    words: &[u32],
-    nonce: &[u8],
-    counter: usize,
-    unused: usize,
-    block: &mut [u8],
-    output: &mut [u8],
-)
-    requires words_len { length words.now ≡ 80 }
-    requires nonce_len { length nonce.now ≡ 12 }
-    requires counter_lt_counters { counter < counters }
-    requires unused_bound { unused ≤ 15 }
-    requires unused_in_bounds { unused ≤ length output.old }
-    requires block_len { length block.old ≡ 16 }
-    ensures { MoreBytes words.now nonce.now counter unused block.old (length output.old) block.new output.new }
-{
-    let from = 16 - unused;
-    copy(&block[from..16], &mut output[0..unused]);
-    new_bytes(words, nonce, counter, block, &mut output[unused..]);
-}
-
-// Bytes from any place of a stream.
-fn key_bytes(
-    words: &[u32],
-    nonce: &[u8],
-    counter: usize,
-    unused: usize,
-    block: &mut [u8],
-    output: &mut [u8],
-)
-    requires words_len { length words.now ≡ 80 }
-    requires nonce_len { length nonce.now ≡ 12 }
-    requires counter_lt_counters { counter < counters }
-    requires unused_bound { unused ≤ 15 }
-    requires block_len { length block.old ≡ 16 }
-    ensures { KeyBytes words.now nonce.now counter unused block.old (length output.old) block.new output.new }
-{
-    if output.len() <= unused {
-        let from = 16 - unused;
-        let to = from + output.len();
-        copy(&block[from..to], output);
-        return;
+    // The start of a counter's block, less than all of it, and that block, which stays; none is made for no bytes.
+    fn last_bytes(&self, counter: usize, output: &mut [u8]) -> [u8; 16]
+        requires { length output.old < 16 }
+        ensures { LastBytes self.now.words self.now.nonce counter self.now.block (length output.old) result output.new }
+    {
+        if output.is_empty() {
+            return self.block;
+        }
+        let block = self.key_block(counter);
+        output.copy_from_slice(&block[..output.len()]);
+        block
     }
-    more_bytes(words, nonce, counter, unused, block, output);
+
+    // New bytes, whole blocks first, and the block that stays.
+    fn new_bytes(&self, output: &mut [u8]) -> [u8; 16]
+        ensures { NewBytes self.now.words self.now.nonce self.now.counter self.now.block (length output.old) result output.new }
+    {
+        let whole = output.len() - output.len() % 16;
+        self.key_blocks(&mut output[..whole]);
+        self.last_bytes(self.counter as usize + whole / 16, &mut output[whole..])
+    }
+
+    // The unused bytes, and new ones after them.
+    fn more_bytes(&self, output: &mut [u8]) -> [u8; 16]
+        requires unused_bound { self.now.unused ≤ 15 }
+        requires unused_in_bounds { self.now.unused ≤ length output.old }
+        ensures { MoreBytes self.now.words self.now.nonce self.now.counter self.now.unused self.now.block (length output.old) result output.new }
+    {
+        let unused = self.unused as usize;
+        output[..unused].copy_from_slice(&self.block[16 - unused..]);
+        self.new_bytes(&mut output[unused..])
+    }
+
+    // Bytes from any place of a stream, and the block that stays.
+    fn key_bytes(&self, output: &mut [u8]) -> [u8; 16]
+        requires { self.now.unused ≤ 15 }
+        ensures { KeyBytes self.now.words self.now.nonce self.now.counter self.now.unused self.now.block (length output.old) result output.new }
+    {
+        let unused = self.unused as usize;
+        if output.len() <= unused {
+            let from = 16 - unused;
+            output.copy_from_slice(&self.block[from..from + output.len()]);
+            return self.block;
+        }
+        self.more_bytes(output)
+    }
 }
 
 // Whether a stream is spent whose next counter would be this one.
@@ -268,12 +214,13 @@ fn spent_at(counter: usize, spent: u32) -> u32
 }
 
 // The numbers after n bytes, for which the counters are enough.
+#[tactic(auto, unfolding(crate::specs::Inner::moved))]
 fn moves(p: Place, n: usize) -> Place
     requires unused_bound { p.unused ≤ 15 }
     requires n_bound { needed p.unused n ≤ counters }
     ensures { result ≡ moved p n }
 {
-    let blocks = blocks_needed(p.unused as usize, n);
+    let blocks = p.blocks_needed(n);
     let counter = (p.counter as usize) + blocks;
     let unused = (p.unused as usize) + 16 * blocks - n;
     let spent = spent_at(counter, p.spent);
@@ -296,82 +243,49 @@ fn kept(block: [u8; 16], unused: u32) -> [u8; 16]
 
 // ---- the calls
 
-// A stream at its first counter. Refusals: 1, 2, and then the stream is all zero and spent.
-pub fn start(key: &[u8], nonce: &[u8], counter: u32) -> Started
-    ensures { Starts key.now nonce.now counter result.code result.stream }
+// A stream at its first counter. Refusals: 1, 2.
+pub fn start(key: &[u8], nonce: &[u8], counter: u32) -> Result<Stream, Refusal>
+    ensures { Starts key.now nonce.now counter (number result) (result_unwrap_or result no_stream) }
 {
-    let mut words = [0u32; 80];
-    let mut own = [0u8; 12];
-    let block = [0u8; 16];
-    let code = start_code(key.len(), nonce.len());
-    if code != DONE {
-        let none = Stream {
-            words,
-            nonce: own,
-            counter: 0,
-            block,
-            unused: 0,
-            spent: 1,
-        };
-        return Started { code, stream: none };
-    }
-    precompute_rkeys(key, &mut words);
-    copy(nonce, &mut own);
-    let stream = Stream {
-        words,
-        nonce: own,
+    start_code(key.len(), nonce.len())?;
+    let mut stream = Stream {
+        words: [0; 80],
+        nonce: [0; 12],
         counter,
-        block,
+        block: [0; 16],
         unused: 0,
         spent: 0,
     };
-    Started { code, stream }
+    let _ = precompute_rkeys(key, &mut stream.words);
+    stream.nonce.copy_from_slice(nonce);
+    Ok(stream)
 }
 
-// More of the message, from one buffer to another. Encrypting and decrypting are the same. Refusals: 10, 3, 12.
-pub fn piece(stream: Stream, input: &[u8], output: &mut [u8]) -> Fed
-    ensures { Feeds stream input.now output.old result.code result.stream output.new }
+impl Stream {
+    // More of the message, from one buffer to another. Encrypting and decrypting are the same. Refusals: 10, 3, 12, and then neither the stream nor the output has changed.
+    pub fn feed(&mut self, input: &[u8], output: &mut [u8]) -> Result<(), Refusal>
+        ensures { Feeds self.old input.now output.old (number result) self.new output.new }
+    {
+        let place = self.place();
+        place.piece_code(input.len(), output.len())?;
+        if input.is_empty() {
+            return Ok(());
+        }
+        let block = self.key_bytes(output);
+        mix(input, output);
+        let to = moves(place, input.len());
+        self.counter = to.counter;
+        self.block = kept(block, to.unused);
+        self.unused = to.unused;
+        self.spent = to.spent;
+        Ok(())
+    }
+}
+
+// The same of a stream by value: the stream after the piece.
+pub fn piece(mut stream: Stream, input: &[u8], output: &mut [u8]) -> Result<Stream, Refusal>
+    ensures { Feeds stream input.now output.old (number result) (result_unwrap_or result stream) output.new }
 {
-    let code = piece_code(
-        stream.counter,
-        stream.unused,
-        stream.spent,
-        input.len(),
-        output.len(),
-    );
-    if code != DONE {
-        // neither the stream nor the output has changed
-        return Fed { code, stream };
-    }
-    if input.len() == 0 {
-        return Fed { code, stream };
-    }
-    let words = stream.words;
-    let nonce = stream.nonce;
-    let mut block = stream.block;
-    key_bytes(
-        &words,
-        &nonce,
-        stream.counter as usize,
-        stream.unused as usize,
-        &mut block,
-        output,
-    );
-    mix(input, output);
-    let place = Place {
-        counter: stream.counter,
-        unused: stream.unused,
-        spent: stream.spent,
-    };
-    let to = moves(place, input.len());
-    let last = kept(block, to.unused);
-    let next = Stream {
-        words,
-        nonce,
-        counter: to.counter,
-        block: last,
-        unused: to.unused,
-        spent: to.spent,
-    };
-    Fed { code, stream: next }
+    stream.feed(input, output)?;
+    Ok(stream)
 }

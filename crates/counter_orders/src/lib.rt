@@ -1,65 +1,72 @@
-// The number that each call gives, by lengths and the stream's numbers: its refusals, in document 02's order, and nothing else.
-#![tactic(auto)]
+// What a call answers by lengths and the stream's numbers: its refusals, in document 02's order, and nothing else.
+#![tactic(auto, unfolding(crate::specs::Orders::start_code, crate::specs::Orders::enough, crate::specs::Orders::piece_code))]
 
 ghost use Rattle.std.specs.Prelude.{◌≡◌};
+ghost use Rattle.answers.specs.Refusals.{number};
 ghost use Rattle.counter_orders.specs.Orders.{start_code, needed, left, enough, piece_code};
 
-use answers::{
-    BAD_BLOCK_LENGTH, BAD_KEY_LENGTH, BAD_OUTPUT_LENGTH, BAD_STATE, DONE, TOO_FEW_COUNTERS,
-};
+use answers::Refusal;
+
+// The numbers of a stream that move.
+// Stays: `spent` is a number beside `counter`, not an Option of it, since a piece that uses no new block leaves both as the caller gave them (`moved`).
+#[derive(Clone, Copy)]
+pub struct Place {
+    pub counter: u32,
+    pub unused: u32,
+    pub spent: u32,
+}
+
+impl Place {
+    // New blocks that n bytes need.
+    pub fn blocks_needed(self, n: usize) -> usize
+        ensures { result ≡ needed self.unused n }
+    {
+        n.saturating_sub(self.unused as usize).div_ceil(16)
+    }
+
+    // Counters that are left.
+    fn counters_left(self) -> usize
+        ensures { result ≡ left self.counter self.spent }
+    {
+        if self.spent != 0 {
+            return 0;
+        }
+        4294967296 - (self.counter as usize)
+    }
+
+    // Whether they are enough: if not, 12.
+    fn has_enough(self, n: usize) -> bool
+        ensures { result ≡ enough self.counter self.unused self.spent n }
+    {
+        self.blocks_needed(n) <= self.counters_left()
+    }
+
+    // A piece: 10, 3, 12.
+    pub fn piece_code(self, input: usize, output: usize) -> Result<(), Refusal>
+        ensures { number result ≡ piece_code self.counter self.unused self.spent input output }
+    {
+        if 15 < self.unused {
+            return Err(Refusal::BadState);
+        }
+        if output != input {
+            return Err(Refusal::BadOutputLength);
+        }
+        if !self.has_enough(input) {
+            return Err(Refusal::TooFewCounters);
+        }
+        Ok(())
+    }
+}
 
 // Starting: 1, 2.
-pub fn start_code(key: usize, nonce: usize) -> u32
-    ensures { result ≡ start_code key nonce }
+pub fn start_code(key: usize, nonce: usize) -> Result<(), Refusal>
+    ensures { number result ≡ start_code key nonce }
 {
     if key != 16 {
-        return BAD_KEY_LENGTH;
+        return Err(Refusal::BadKeyLength);
     }
     if nonce != 12 {
-        return BAD_BLOCK_LENGTH;
+        return Err(Refusal::BadBlockLength);
     }
-    DONE
-}
-
-// New blocks that n bytes need. Written so that no length overflows.
-pub fn blocks_needed(unused: usize, n: usize) -> usize
-    ensures { result ≡ needed unused n }
-{
-    if n <= unused {
-        return 0;
-    }
-    (n - unused - 1) / 16 + 1
-}
-
-// Counters that are left.
-fn counters_left(counter: u32, spent: u32) -> usize
-    ensures { result ≡ left counter spent }
-{
-    if spent != 0 {
-        return 0;
-    }
-    4294967296 - (counter as usize)
-}
-
-// Whether they are enough: if not, 12.
-fn has_enough(counter: u32, unused: u32, spent: u32, n: usize) -> bool
-    ensures { result ≡ enough counter unused spent n }
-{
-    blocks_needed(unused as usize, n) <= counters_left(counter, spent)
-}
-
-// A piece: 10, 3, 12.
-pub fn piece_code(counter: u32, unused: u32, spent: u32, input: usize, output: usize) -> u32
-    ensures { result ≡ piece_code counter unused spent input output }
-{
-    if 15 < unused {
-        return BAD_STATE;
-    }
-    if output != input {
-        return BAD_OUTPUT_LENGTH;
-    }
-    if !has_enough(counter, unused, spent, input) {
-        return TOO_FEW_COUNTERS;
-    }
-    DONE
+    Ok(())
 }

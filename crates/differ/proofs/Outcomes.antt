@@ -11,10 +11,14 @@ use borrow.Author.Tests.{eq-eqb, eqb-true, ne_eqb, le-leb, lt-leb}
 use Rattle.answers.specs.Numbers.{DONE, SHORT_OUTPUT}
 use Rattle.answers.specs.Order.{unless, if_done}
 use Rattle.answers.proofs.Outcome.{if_done_lem, if_refused}
-use Rattle.bundle_format.specs.Reader.{count_of, read_code, opened}
+use Rattle.bundle_format.specs.Reader.{count_of, well_formed, read_code, opened}
 use Rattle.bundle_format.specs.declared.Opened.{Opened}
+use Rattle.bundle_format.proofs.Accepted.{accepts, formed_if}
 use Rattle.differ.specs.Difference.{Line, lines_from, ids, listed, numbers_of, compare_code, Compares}
-use Rattle.differ.specs.Inner.{Looked}
+
+-- an accepted bundle is well formed
+pub right_when : (key b : List ℕ) → read_code 2 key b ≡ 0 → well_formed 2 b ≡ true
+right_when key b e = formed_if 2 b (accepts 2 key b e).0.formed
 
 module _ (key b : List ℕ) (o : Opened) (is : o ≡ opened 2 key b) where
   -- the number that looking through a bundle gives
@@ -27,8 +31,16 @@ module _ (key b : List ℕ) (o : Opened) (is : o ≡ opened 2 key b) where
       go true e = sym (eqb-true (read_code 2 key b) 0 e)
       go false e = refl
 
-  pub looked : o.code ≡ 0 → Looked o b
-  looked z = record { key = key; is = is; done = sym code-told ∙ z }
+  -- what it gives of an accepted one
+  module _ (z : o.code ≡ 0) where
+    pub looked : ◌≡◌ {A = Opened} o (record { code = 0; reader = 2; count = count_of b; size = length b })
+    unfolding opened
+    looked =
+        is
+        ∙ ap (λ (t : Bool). cond {A = Opened} t (record { code = 0; reader = 2; count = count_of b; size = length b }) (record { code = read_code 2 key b; reader = 2; count = 0; size = 0 })) (eq-eqb (read_code 2 key b) 0 (sym code-told ∙ z))
+
+    pub right : well_formed 2 b ≡ true
+    right = right_when key b (sym code-told ∙ z)
 
 module _ (key b c : List ℕ) where
   pub first_refused : read_code 2 key b ≢ 0 → listed key b c ≡ []

@@ -1,21 +1,19 @@
--- Rows: nine numbers stored, and the lines laid one after the other.
+-- Rows: the line of what was found, and the lines laid one after the other.
 use mathlib.Core.Path.{◌≡◌, refl, sym, ap, ap₂, ◌∙◌}
-use mathlib.Core.Bool.{Bool, true, false, cond}
+use mathlib.Core.Bool.{true, false, false≢true}
 use mathlib.Core.List.{List, [], ◌∷◌, ◌++◌, append_assoc, append-nil}
 use Prim.Native.Nat.{ℕ, ◌+◌, ◌-◌, ◌*◌, ◌<◌, ◌≤◌}
 use native.Mathlib.Omega.{arith}
-use lib.ListN.{length, take, drop, length-append, drop_of_length-le, take-append-drop}
-use lib.Seq.{sets, sets-eq, take_all, drop-drop, paste, take-paste, drop-paste, length-paste}
+use lib.ListN.{length, take, drop, length-append, take-append-drop}
+use lib.Seq.{take_all, drop-drop, paste, take-paste, drop-paste, length-paste}
 use borrow.Rule.Slice.PartMut.{put_mid, Post-is}
+use Rattle.std.specs.Option.{is_some}
+use Rattle.std.specs.declared.option.Option.{Option}
+use Rattle.std.specs.declared.option.Option.TheVariants.{None, Some}
 use Rattle.differ.specs.Difference.{Line, numbers, numbers_of, lines_from, ids}
-use Rattle.differ.specs.Inner.{line_if, Steps}
+use Rattle.differ.specs.Inner.{line_in, line_if, Steps}
+use Rattle.differ.specs.declared.Found.{Found}
 use Rattle.differ.specs.declared.Step.{Step}
-
-pub nine-stored : (l : List ℕ) (line : Line) → length l ≡ 9
-    → sets l 0 (line.id ∷ line.one.state ∷ line.one.kind ∷ line.one.at ∷ line.one.len ∷ line.two.state ∷ line.two.kind ∷ line.two.at ∷ line.two.len ∷ []) ≡ numbers line
-unfolding numbers
-nine-stored l line e =
-    sets-eq (numbers line) l 0 (omega arith) ∙ ap (λ (x : List ℕ). numbers line ++ x) (drop_of_length-le l {i = 9} (omega arith)) ∙ append-nil (numbers line)
 
 pub length-numbers_of : (ls : List Line) → length (numbers_of ls) ≡ 9 * length ls
 unfolding numbers_of numbers
@@ -31,41 +29,34 @@ unfolding numbers_of
 numbers-append [] ls = refl
 numbers-append (k ∷ ks) ls = ap (λ (x : List ℕ). numbers k ++ x) (numbers-append ks ls) ∙ sym (append_assoc (numbers k) (numbers_of ks) (numbers_of ls))
 
--- ---- a step's line, if any
+-- ---- a line that was found, if any
 
-line_found : (s : Step) → s.differs ≡ true → line_if s ≡ record { id = s.id; one = s.one; two = s.two } ∷ []
-unfolding line_if
-line_found s e = ap (λ (t : Bool). cond t (record { id = s.id; one = s.one; two = s.two } ∷ []) []) e
+pub one_line : (o : Option Found) → is_some o ≡ true → length (line_in o) ≡ 1
+unfolding line_in
+one_line None e = absurd (false≢true e)
+one_line (Some f) e = refl
 
-pub line_none : (s : Step) → s.differs ≡ false → line_if s ≡ []
-unfolding line_if
-line_none s e = ap (λ (t : Bool). cond t (record { id = s.id; one = s.one; two = s.two } ∷ []) []) e
-
-pub one_line : (s : Step) → s.differs ≡ true → length (line_if s) ≡ 1
-one_line s e = ap length (line_found s e)
-
-pub no_line : (s : Step) → s.differs ≡ false → length (line_if s) ≡ 0
-no_line s e = ap length (line_none s e)
+pub no_line : (o : Option Found) → is_some o ≡ false → length (line_in o) ≡ 0
+unfolding line_in
+no_line None e = refl
+no_line (Some f) e = absurd (false≢true (sym e))
 
 -- nothing kept
-pub none_kept : (rows : List ℕ) (k : ℕ) (s : Step) → s.differs ≡ false → rows ≡ paste rows (9 * k) (numbers_of (line_if s)) (9 * length (line_if s))
-unfolding numbers_of
-none_kept rows k s e =
-    sym (take-append-drop (9 * k) rows)
-    ∙ ap₂ (λ (x : List ℕ) (n : ℕ). x ++ drop n rows) (sym (append-nil (take (9 * k) rows))) none_added
-    ∙ sym (ap (λ (ls : List Line). paste rows (9 * k) (numbers_of ls) (9 * length ls)) (line_none s e))
+pub none_kept : (rows : List ℕ) (k : ℕ) → rows ≡ paste rows (9 * k) (numbers_of (line_in None)) (9 * length (line_in None))
+unfolding numbers_of line_in
+none_kept rows k =
+    sym (take-append-drop (9 * k) rows) ∙ ap₂ (λ (x : List ℕ) (n : ℕ). x ++ drop n rows) (sym (append-nil (take (9 * k) rows))) none_added
   where
     none_added : 9 * k ≡ 9 * k + 0
     none_added = omega arith
 
 -- one line kept
-pub one_kept : (rows : List ℕ) (k : ℕ) (s : Step) (new : List ℕ) → s.differs ≡ true → 9 * k + 9 ≤ length rows → new ≡ numbers (record { id = s.id; one = s.one; two = s.two })
-    → put_mid (9 * k) (9 * k + 9 - 9 * k) rows new ≡ paste rows (9 * k) (numbers_of (line_if s)) (9 * length (line_if s))
-unfolding numbers_of numbers
-one_kept rows k s new e h is =
+pub one_kept : (rows : List ℕ) (k : ℕ) (f : Found) (new : List ℕ) → 9 * k + 9 ≤ length rows → new ≡ numbers (record { id = f.id; one = f.one; two = f.two })
+    → put_mid (9 * k) (9 * k + 9 - 9 * k) rows new ≡ paste rows (9 * k) (numbers_of (line_in (Some f))) (9 * length (line_in (Some f)))
+unfolding numbers_of numbers line_in
+one_kept rows k f new h is =
     ap₂ (λ (x y : List ℕ). take (9 * k) rows ++ (x ++ y)) is (Post-is (9 * k) (9 * k + 9) rows (omega arith))
-    ∙ sym (append_assoc (take (9 * k) rows) (numbers (record { id = s.id; one = s.one; two = s.two })) (drop (9 * k + 9) rows))
-    ∙ sym (ap (λ (ls : List Line). paste rows (9 * k) (numbers_of ls) (9 * length ls)) (line_found s e))
+    ∙ sym (append_assoc (take (9 * k) rows) (numbers (record { id = f.id; one = f.one; two = f.two })) (drop (9 * k + 9) rows))
 
 -- ---- a loop over the ids: k lines are behind it, and those from `low` on before it
 

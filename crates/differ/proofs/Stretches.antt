@@ -7,16 +7,17 @@ use native.Mathlib.Omega.{arith}
 use lib.Dec.{eqb, leb}
 use lib.ListN.{length, drop}
 use borrow.Author.Tests.{eqb-true, leb-true, leb-false, le-leb, lt-leb}
+use Rattle.std.specs.declared.option.Option.{Option}
+use Rattle.std.specs.declared.option.Option.TheVariants.{None, Some}
 use Rattle.bundle_format.specs.Format.{knows}
-use Rattle.bundle_format.specs.Reader.{count_of, rows_of, ABSENT, VALUE, UNKNOWN, bare, tell, tell_in}
+use Rattle.bundle_format.specs.Reader.{count_of, rows_of, well_formed, ABSENT, VALUE, UNKNOWN, bare, tell, tell_in}
 use Rattle.bundle_format.specs.declared.Row.{Row}
 use Rattle.bundle_format.specs.declared.Told.{Told}
-use Rattle.bundle_format.specs.declared.Opened.{Opened}
+use Rattle.bundle_format.proofs.Accepted.{formed_only}
 use Rattle.bundle_format.proofs.Rows.{length_rows_from}
 use Rattle.differ.specs.Difference.{told_of, alike, Line, line_of, lines_from, ids}
-use Rattle.differ.specs.Inner.{Looked, FirstFrom, line_if, Steps}
-use Rattle.differ.specs.declared.Step.{Step}
-use Rattle.differ.proofs.Tables.{few}
+use Rattle.differ.specs.Inner.{FirstFrom, line_in, Steps}
+use Rattle.differ.specs.declared.Found.{Found}
 
 both_absent : (b c : List ℕ) (t u : Told) → t ≡ bare ABSENT 0 → u ≡ bare ABSENT 0 → alike b t c u ≡ true
 unfolding alike
@@ -60,9 +61,9 @@ module _ (b c : List ℕ) where
         there : low + (next - low) ≡ next
         there = let l : low ≤ r = one.from in let h : low ≤ s = two.from in omega arith
 
-    pub step-ends : low < ids → ids ≤ next → (t : Step) → t.low ≡ ids → t.differs ≡ false → Steps b c low t
-    unfolding line_if lines_from
-    step-ends below all t end none =
+    pub step-ends : low < ids → ids ≤ next → Steps b c low (record { low = ids; found = None })
+    unfolding line_in lines_from
+    step-ends below all =
         record {
           rises = omega arith;
           most = omega arith;
@@ -70,33 +71,37 @@ module _ (b c : List ℕ) where
               λ n m e f.
               let last : next ≡ ids = let l : r ≤ ids = one.most in omega arith in
               let nil : m ≡ 0 = omega arith in
-              up_to n 0 e (omega arith) ∙ sym (ap₂ (λ (x : Bool) (j : ℕ). cond x (record { id = t.id; one = t.one; two = t.two } ∷ []) [] ++ lines_from j t.low b c) none nil);
+              up_to n 0 e (omega arith) ∙ sym (ap (λ (j : ℕ). lines_from j ids b c) nil);
         }
 
     module _ (below : next < ids) (x y : Told) (seen : x ≡ told_of b next) (looked : y ≡ told_of c next) (same : Bool) (told : same ≡ alike b x c y) where
-      abbrev step : Step
-      step = record { low = next + 1; differs = not same; id = next; one = x; two = y }
-
-      found : Line
+      abbrev found : Line
       found = record { id = next; one = x; two = y }
 
       here : (m : ℕ) (t : Bool) → same ≡ t → lines_from (suc m) next b c ≡ cond (not t) (found ∷ []) [] ++ lines_from m (next + 1) b c
-      unfolding lines_from line_of found
+      unfolding lines_from line_of
       here m true e = same_here m next (sym (ap₂ (λ (p q : Told). alike b p c q) seen looked) ∙ sym told ∙ e)
       here m false e =
           ap (λ (t : Bool). cond t (lines_from m (next + 1) b c) (line_of b c next ∷ lines_from m (next + 1) b c)) (sym (ap₂ (λ (p q : Told). alike b p c q) seen looked) ∙ sym told ∙ e)
           ∙ (λ i. record { id = next; one = sym seen i; two = sym looked i } ∷ lines_from m (next + 1) b c)
 
-      pub step_on : Steps b c low step
-      unfolding line_if found
-      step_on =
+      pub step_on : (o : Option Found) (t : Bool) → same ≡ t → line_in o ≡ cond (not t) (found ∷ []) [] → Steps b c low (record { low = next + 1; found = o })
+      step_on o t says has =
           let l : low ≤ r = one.from in
           let h : low ≤ s = two.from in
           record {
             rises = omega arith;
             most = omega arith;
-            lines = λ n m e f. up_to n (suc m) e (omega arith) ∙ here m same refl;
+            lines = λ n m e f. up_to n (suc m) e (omega arith) ∙ here m t says ∙ ap (λ (ls : List Line). ls ++ lines_from m (next + 1) b c) (sym has);
           }
+
+      pub step_same : same ≡ true → Steps b c low (record { low = next + 1; found = None })
+      unfolding line_in
+      step_same e = step_on None true e refl
+
+      pub step_found : same ≡ false → Steps b c low (record { low = next + 1; found = Some (record { id = next; one = x; two = y }) })
+      unfolding line_in
+      step_found e = step_on (Some (record { id = next; one = x; two = y })) false e refl
 
 -- ---- no more lines than entries
 
@@ -191,6 +196,6 @@ module _ (b c : List ℕ) where
           (λ y. omega (arith, fewer low (rows_of b), one_fewer low (rows_of c) y)))
           (λ x. omega (arith, fewer low (rows_of c), one_fewer low (rows_of b) x))
 
-  pub most_lines : (o p : Opened) → Looked o b → Looked p c → (n low : ℕ) → length (lines_from n low b c) ≤ 512
-  most_lines o p one two n low =
-      omega (arith, counted n low, all_entries low (rows_of b), all_entries low (rows_of c), length_rows_from (count_of b) (drop 8 b), length_rows_from (count_of c) (drop 8 c), few o b one, few p c two)
+  pub most_lines : well_formed 2 b ≡ true → well_formed 2 c ≡ true → (n low : ℕ) → length (lines_from n low b c) ≤ 512
+  most_lines one two n low =
+      omega (arith, counted n low, all_entries low (rows_of b), all_entries low (rows_of c), length_rows_from (count_of b) (drop 8 b), length_rows_from (count_of c) (drop 8 c), (formed_only 2 b one).count, (formed_only 2 c two).count)

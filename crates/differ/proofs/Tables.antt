@@ -7,20 +7,18 @@ use native.Mathlib.Nat.{le_of_suc-le-suc}
 use native.Mathlib.Omega.{arith}
 use lib.Dec.{eqb}
 use lib.ListN.{length}
-use borrow.Author.Tests.{ne_eqb}
-use Rattle.answers.proofs.Outcome.{if_done_lem}
+use borrow.Author.Tests.{eq-eqb, ne_eqb, le-leb}
 use Rattle.bundle_format.specs.Format.{knows, first_body}
-use Rattle.bundle_format.specs.Reader.{count_of, end_of, rows_of, sound_rows, read_code, REFUSED, ABSENT, VALUE, UNKNOWN, bare, tell, tell_in, tell_at, opened, looked_up, entry_of}
+use Rattle.bundle_format.specs.Reader.{count_of, end_of, rows_of, sound_rows, well_formed, REFUSED, ABSENT, VALUE, UNKNOWN, bare, tell, tell_in, tell_at, answers_for, looked_up, entry_of}
 use Rattle.bundle_format.specs.declared.Row.{Row}
 use Rattle.bundle_format.specs.declared.Told.{Told}
 use Rattle.bundle_format.specs.declared.Opened.{Opened}
 use Rattle.bundle_format.proofs.Rows.{length_rows_from}
-use Rattle.bundle_format.proofs.Accepted.{Whole, accepts}
+use Rattle.bundle_format.proofs.Accepted.{Formed, formed_only}
 use Rattle.bundle_format.proofs.Decoded.{Sound, sound_only}
 use Rattle.bundle_format.proofs.Entries.{tell-id}
-use Rattle.bundle_format.proofs.Theorems.{look_as_ask, entry_is}
 use Rattle.differ.specs.Difference.{told_of, ids}
-use Rattle.differ.specs.Inner.{Looked, FirstFrom}
+use Rattle.differ.specs.Inner.{FirstFrom}
 
 -- ---- ids that a table does not have
 
@@ -70,30 +68,30 @@ told_within b low at (r ∷ rs) id e =
 
 -- ---- a bundle that was looked through
 
-module _ (o : Opened) (b : List ℕ) (seen : Looked o b) where
-  whole : Whole 2 seen.key b
-  whole = (accepts 2 seen.key b seen.done).0
+module _ (o : Opened) (b : List ℕ) (is : o ≡ record { code = 0; reader = 2; count = count_of b; size = length b }) (right : well_formed 2 b ≡ true) where
+  formed : Formed 2 b
+  formed = formed_only 2 b right
 
   sound : sound_rows 2 b 0 (first_body (count_of b)) (rows_of b) ≡ true
-  sound = whole.formed.rows
+  sound = formed.rows
 
   pub count_is : o.count ≡ count_of b
-  unfolding opened
-  count_is =
-      ap (λ (p : Opened). p.count) seen.is
-      ∙ ap (λ (p : Opened). p.count) (if_done_lem (read_code 2 seen.key b) (record { code = 0; reader = 2; count = count_of b; size = length b }) (record { code = read_code 2 seen.key b; reader = 2; count = 0; size = 0 }) seen.done)
+  count_is = ap (λ (p : Opened). p.count) is
 
   pub few : count_of b ≤ 256
-  few = whole.formed.count
+  few = formed.count
+
+  answers : answers_for (record { code = 0; reader = 2; count = count_of b; size = length b }) b ≡ true
+  unfolding answers_for
+  answers = let t : first_body (count_of b) ≤ end_of b = formed.table in rw (eq-eqb (length b) (length b) refl, le-leb (first_body (count_of b)) (length b) (omega arith))
 
   pub entry-told : (i : ℕ) → entry_of o b i ≡ tell_at 2 i (rows_of b)
-  entry-told i =
-      ap (λ (p : Opened). entry_of p b i) seen.is ∙ entry_is 2 seen.key b i ∙ if_done_lem (read_code 2 seen.key b) (tell_at 2 i (rows_of b)) (bare REFUSED 0) seen.done
+  unfolding entry_of
+  entry-told i = ap (λ (p : Opened). entry_of p b i) is ∙ ap (λ (t : Bool). cond t (tell_at 2 i (rows_of b)) (bare REFUSED 0)) answers
 
   pub look-told : (id : ℕ) → looked_up o b id ≡ told_of b id
-  look-told id =
-      ap (λ (p : Opened). looked_up p b id) seen.is
-      ∙ look_as_ask 2 seen.key b id 0 (told_of b id) (record { is = sym seen.done; leaves = sym (if_done_lem (read_code 2 seen.key b) (told_of b id) (bare REFUSED 0) seen.done) })
+  unfolding looked_up
+  look-told id = ap (λ (p : Opened). looked_up p b id) is ∙ ap (λ (t : Bool). cond t (told_of b id) (bare REFUSED 0)) answers
 
   pub within : (id : ℕ) → (told_of b id).at + (told_of b id).len ≤ length b
   within id = told_within b 0 (first_body (count_of b)) (rows_of b) id sound

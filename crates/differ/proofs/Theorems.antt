@@ -9,11 +9,11 @@ use lib.Dec.{eqb, ltb}
 use lib.ListN.{length}
 use borrow.Author.Tests.{eqb-true, eqb-false, ltb-true, ltb-false}
 use Rattle.published.specs.Bytes.{Bytes}
-use Rattle.bundle_format.specs.Reader.{read_code, opened}
+use Rattle.bundle_format.specs.Reader.{read_code}
 use Rattle.differ.specs.Difference.{told_of, alike, Line, line_of, lines_from, ids, listed}
 use Rattle.differ.specs.Promises.{answer, In, here, there, Rising, none, more, exchanged}
 use Rattle.differ.proofs.Stretches.{most_lines}
-use Rattle.differ.proofs.Outcomes.{first_refused, second-refused, both_accepted}
+use Rattle.differ.proofs.Outcomes.{right_when, first_refused, second-refused, both_accepted}
 use Rattle.differ.proofs.Told_apart.{told_same, same_told, told-apart, past_answer}
 
 no_place : (l : Line) → In l [] → ⊥
@@ -139,7 +139,7 @@ module _ (key b c : List ℕ) where
       go true e true f =
           let x : read_code 2 key b ≡ 0 = eqb-true (read_code 2 key b) 0 e in
           let y : read_code 2 key c ≡ 0 = eqb-true (read_code 2 key c) 0 f in
-          rw (both_accepted key b c x y) (most_lines b c (opened 2 key b) (opened 2 key c) (record { key = key; is = refl; done = x }) (record { key = key; is = refl; done = y }) ids 0)
+          rw (both_accepted key b c x y) (most_lines b c (right_when key b x) (right_when key c y) ids 0)
       go true e false f = empty (second-refused key b c (eqb-false (read_code 2 key c) 0 f))
       go false e u f = empty (first_refused key b c (eqb-false (read_code 2 key b) 0 e))
 

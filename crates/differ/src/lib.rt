@@ -1,19 +1,20 @@
 // Where two bundles differ, by the reader of edition 2: the ids whose two answers are not the same, rising, each with both answers.
 #![tactic(auto)]
 
-ghost use Rattle.std.specs.Prelude.{◌≡◌, false, ◌++◌, ◌+◌, ◌*◌, ◌<◌, ◌≤◌, min, length, drop};
+ghost use Rattle.std.specs.Prelude.{◌≡◌, true, ◌++◌, ◌+◌, ◌*◌, ◌<◌, ◌≤◌, length, drop};
 ghost use Rattle.std.proofs.Math.Seq.{paste};
-ghost use Rattle.cmac.specs.Calls.{same};
+ghost use Rattle.bundle_format.specs.Reader.{count_of, well_formed};
 ghost use Rattle.differ.specs.Difference.{alike, numbers, numbers_of, lines_from, ids, Compares};
-ghost use Rattle.differ.specs.Inner.{Looked, FirstFrom, line_if, Steps};
+ghost use Rattle.differ.specs.Inner.{FirstFrom, line_in, Steps};
 
-use answers::{DONE, SHORT_OUTPUT};
-use bundle_format::{Opened, Told, VALUE};
+use answers::Refusal;
+use bundle_format::{Edition, Opened, State, Told};
 
 // How many ids there are: one more than the last. A cursor over them does not fit an id.
 const IDS: usize = 4294967296;
 
 // What comparing answers: 0, or the first number that applies; each bundle's number; and how many ids differ, 0 if a bundle is refused.
+// Stays: numbers, and no Result, for the C interface: of a refusal too it tells both bundles' numbers, as the edit second_refusal_hidden has it.
 #[repr(C)]
 #[derive(Clone, Copy)]
 pub struct Compared {
@@ -23,43 +24,42 @@ pub struct Compared {
     pub count: u32,
 }
 
-// The id that was looked at, whether its answers differ, and where to go on.
+// A bundle that was accepted: what looking it through gave, and its bytes.
 #[derive(Clone, Copy)]
-struct Step {
-    low: usize,
-    differs: bool,
+struct Side<'a> {
+    seen: Opened,
+    bundle: &'a [u8],
+    ghost looked: { seen ≡ record { code = 0; reader = 2; count = count_of bundle.now; size = length bundle.now } },
+    ghost formed: { well_formed 2 bundle.now ≡ true },
+}
+
+// An id whose answers differ, with both.
+#[derive(Clone, Copy)]
+struct Found {
     id: u32,
     one: Told,
     two: Told,
 }
 
-// ---- one id
-
-fn same_bytes(a: &[u8], b: &[u8]) -> bool
-    ensures { result ≡ same a.now b.now }
-{
-    if a.len() != b.len() {
-        return false;
-    }
-    let mut i: usize = 0;
-    while i < a.len() {
-        if a[i] != b[i] {
-            return false;
-        }
-        i += 1;
-    }
-    true
+// What an id that was looked at gave, and where to go on.
+#[derive(Clone, Copy)]
+struct Step {
+    low: usize,
+    found: Option<Found>,
 }
+
+// ---- one id
 
 fn same_answer(one: Told, first: &[u8], two: Told, second: &[u8]) -> bool
     requires len_in_bounds { one.at + one.len ≤ length first.now }
     requires len_in_bounds_2 { two.at + two.len ≤ length second.now }
     ensures { result ≡ alike first.now one second.now two }
 {
+    let value = u32::from(State::Value);
     if one.state != two.state {
         return false;
     }
-    if one.state != VALUE {
+    if one.state != value {
         return true;
     }
     if one.kind != two.kind {
@@ -69,98 +69,68 @@ fn same_answer(one: Told, first: &[u8], two: Told, second: &[u8]) -> bool
     let b = a + one.len as usize;
     let c = two.at as usize;
     let d = c + two.len as usize;
-    same_bytes(&first[a..b], &second[c..d])
+    first[a..b] == second[c..d]
 }
 
 // ---- from id to id
 
 // The first id of a bundle's table from `low` on; past them all, if there is none.
-fn first_from(seen: Opened, bundle: &[u8], low: usize) -> usize
-    requires looked { Looked seen bundle.now }
-    requires low_lt_ids { low < ids }
-    ensures { FirstFrom bundle.now low result }
+// Stays: the end of the ids in place of an Option, for of two Options the lesser is None where either is, and advance takes the lesser id of those there are.
+fn first_from(side: Side, low: usize) -> usize
+    requires { low < ids }
+    ensures { FirstFrom side.entry.bundle.now low result }
 {
-    let mut i: u32 = 0;
-    while i < seen.count {
-        let told = bundle_reader::entry(seen, bundle, i);
+    for i in 0..side.seen.count {
+        let told = bundle_reader::entry(side.seen, side.bundle, i);
         let id = told.id as usize;
         if low <= id {
             return id;
         }
-        i += 1;
     }
     IDS
 }
 
-fn least(a: usize, b: usize) -> usize
-    ensures { result ≡ min a b }
-{
-    if a < b { a } else { b }
-}
-
-fn nothing() -> Told {
-    Told {
-        state: 0,
-        id: 0,
-        kind: 0,
-        at: 0,
-        len: 0,
-    }
-}
-
-// No id is left.
-fn ended() -> Step
-    ensures { (result.low ≡ ids) × (result.differs ≡ false) }
-{
-    let one = nothing();
-    let two = nothing();
-    Step {
-        low: IDS,
-        differs: false,
-        id: 0,
-        one,
-        two,
-    }
-}
-
 // The next id from `low` on that either bundle has.
-fn advance(one: Opened, first: &[u8], two: Opened, second: &[u8], low: usize) -> Step
-    requires looked { Looked one first.now }
-    requires looked_2 { Looked two second.now }
-    requires low_lt_ids { low < ids }
-    ensures { Steps first.now second.now low result }
+fn advance(one: Side, two: Side, low: usize) -> Step
+    requires { low < ids }
+    ensures { Steps one.entry.bundle.now two.entry.bundle.now low result }
 {
-    let a = first_from(one, first, low);
-    let b = first_from(two, second, low);
-    let next = least(a, b);
+    let a = first_from(one, low);
+    let b = first_from(two, low);
+    let next = a.min(b);
     if IDS <= next {
-        return ended();
+        return Step {
+            low: IDS,
+            found: None,
+        };
     }
     let id = next as u32;
-    let x = bundle_reader::look(one, first, id);
-    let y = bundle_reader::look(two, second, id);
-    let same = same_answer(x, first, y, second);
+    let x = bundle_reader::look(one.seen, one.bundle, id);
+    let y = bundle_reader::look(two.seen, two.bundle, id);
+    let after = next + 1;
+    if same_answer(x, one.bundle, y, two.bundle) {
+        return Step {
+            low: after,
+            found: None,
+        };
+    }
+    let found = Found { id, one: x, two: y };
     Step {
-        low: next + 1,
-        differs: !same,
-        id,
-        one: x,
-        two: y,
+        low: after,
+        found: Some(found),
     }
 }
 
 // ---- all ids
 
-fn count_all(one: Opened, first: &[u8], two: Opened, second: &[u8]) -> u32
-    requires looked { Looked one first.now }
-    requires looked_2 { Looked two second.now }
-    ensures { (result ≡ length (lines_from ids 0 first.now second.now)) × (result ≤ 512) }
+fn count_all(one: Side, two: Side) -> u32
+    ensures { (result ≡ length (lines_from ids 0 one.entry.bundle.now two.entry.bundle.now)) × (result ≤ 512) }
 {
     let mut low: usize = 0;
     let mut n: u32 = 0;
     while low < IDS {
-        let s = advance(one, first, two, second, low);
-        if s.differs {
+        let s = advance(one, two, low);
+        if s.found.is_some() {
             n += 1;
         }
         low = s.low;
@@ -168,48 +138,41 @@ fn count_all(one: Opened, first: &[u8], two: Opened, second: &[u8]) -> u32
     n
 }
 
-fn put_line(out: &mut [u32], id: u32, one: Told, two: Told)
-    requires { length out.old ≡ 9 }
-    ensures { out.new ≡ numbers (record { id = id; one = one; two = two }) }
+fn numbers(line: Found) -> [u32; 9]
+    ensures { result ≡ numbers (record { id = line.id; one = line.one; two = line.two }) }
 {
-    out[0] = id;
-    out[1] = one.state;
-    out[2] = one.kind;
-    out[3] = one.at;
-    out[4] = one.len;
-    out[5] = two.state;
-    out[6] = two.kind;
-    out[7] = two.at;
-    out[8] = two.len;
+    let one = line.one;
+    let two = line.two;
+    [
+        line.id, one.state, one.kind, one.at, one.len, two.state, two.kind, two.at, two.len,
+    ]
 }
 
 // Row k, if the id differs: the number of rows then.
-fn keep(rows: &mut [u32], k: usize, s: Step) -> usize
-    requires { 9 * k + 9 * length (line_if s) ≤ length rows.old }
-    ensures { (result ≡ k + length (line_if s)) × (rows.new ≡ paste rows.old (9 * k) (numbers_of (line_if s)) (9 * length (line_if s))) }
+fn keep(rows: &mut [u32], k: usize, found: Option<Found>) -> usize
+    requires { 9 * k + 9 * length (line_in found) ≤ length rows.old }
+    ensures { (result ≡ k + length (line_in found)) × (rows.new ≡ paste rows.old (9 * k) (numbers_of (line_in found)) (9 * length (line_in found))) }
 {
-    if !s.differs {
-        return k;
+    match found {
+        None => k,
+        Some(line) => {
+            let p = 9 * k;
+            let e = p + 9;
+            rows[p..e].copy_from_slice(&numbers(line));
+            k + 1
+        }
     }
-    let p = 9 * k;
-    let e = p + 9;
-    let one = s.one;
-    let two = s.two;
-    put_line(&mut rows[p..e], s.id, one, two);
-    k + 1
 }
 
-fn fill(one: Opened, first: &[u8], two: Opened, second: &[u8], rows: &mut [u32])
-    requires looked { Looked one first.now }
-    requires looked_2 { Looked two second.now }
-    requires second_in_bounds { 9 * length (lines_from ids 0 first.now second.now) ≤ length rows.old }
-    ensures { rows.new ≡ numbers_of (lines_from ids 0 first.now second.now) ++ drop (9 * length (lines_from ids 0 first.now second.now)) rows.old }
+fn fill(one: Side, two: Side, rows: &mut [u32])
+    requires { 9 * length (lines_from ids 0 one.bundle.now two.bundle.now) ≤ length rows.old }
+    ensures { rows.new ≡ numbers_of (lines_from ids 0 one.entry.bundle.now two.entry.bundle.now) ++ drop (9 * length (lines_from ids 0 one.entry.bundle.now two.entry.bundle.now)) rows.old }
 {
     let mut low: usize = 0;
     let mut k: usize = 0;
     while low < IDS {
-        let s = advance(one, first, two, second, low);
-        k = keep(rows, k, s);
+        let s = advance(one, two, low);
+        k = keep(rows, k, s.found);
         low = s.low;
     }
 }
@@ -219,9 +182,9 @@ fn fill(one: Opened, first: &[u8], two: Opened, second: &[u8], rows: &mut [u32])
 pub fn compare(key: &[u8], first: &[u8], second: &[u8], rows: &mut [u32]) -> Compared
     ensures { Compares key.now first.now second.now rows.old result.code result.first result.second result.count rows.new }
 {
-    let one = bundle_reader::open_2(key, first);
-    let two = bundle_reader::open_2(key, second);
-    if one.code != DONE {
+    let one = bundle_reader::open(Edition::Second, key, first);
+    let two = bundle_reader::open(Edition::Second, key, second);
+    if one.code != 0 {
         return Compared {
             code: one.code,
             first: one.code,
@@ -229,7 +192,7 @@ pub fn compare(key: &[u8], first: &[u8], second: &[u8], rows: &mut [u32]) -> Com
             count: 0,
         };
     }
-    if two.code != DONE {
+    if two.code != 0 {
         let code = two.code;
         return Compared {
             code,
@@ -238,16 +201,24 @@ pub fn compare(key: &[u8], first: &[u8], second: &[u8], rows: &mut [u32]) -> Com
             count: 0,
         };
     }
-    let count = count_all(one, first, two, second);
+    let a = Side {
+        seen: one,
+        bundle: first,
+    };
+    let b = Side {
+        seen: two,
+        bundle: second,
+    };
+    let count = count_all(a, b);
     if rows.len() < 9 * count as usize {
         return Compared {
-            code: SHORT_OUTPUT,
+            code: u32::from(Refusal::ShortOutput),
             first: 0,
             second: 0,
             count,
         };
     }
-    fill(one, first, two, second, rows);
+    fill(a, b, rows);
     Compared {
         code: 0,
         first: 0,

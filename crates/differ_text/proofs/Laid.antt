@@ -1,15 +1,18 @@
 -- A text laid in a buffer, byte by byte.
 use mathlib.Core.Path.{◌≡◌, refl, sym, ap, ap₂, ◌∙◌}
 use mathlib.Core.Bool.{Bool, true, false}
-use mathlib.Core.List.{List, [], ◌∷◌, ◌++◌, append_assoc}
+use mathlib.Core.List.{List, [], ◌∷◌, ◌++◌, append_assoc, append-nil}
 use Prim.Native.Nat.{ℕ, suc, ◌+◌, ◌<◌, ◌≤◌, min}
 use native.Mathlib.Nat.{min-le_right}
+use native.Mathlib.Numerals.{add-one}
 use native.Mathlib.Omega.{arith}
 use lib.Dec.{leb}
-use lib.ListN.{length, take, drop, set, length-append, length-drop, length-take}
-use lib.Seq.{take_all, drop-cons, set-append_seam, take-append-le, take_at, take-take}
+use lib.ListN.{length, take, drop, get_or, set, length-append, length-drop, length-take}
+use lib.Seq.{take-suc, take_all, drop-cons, set-append_seam, take-append-le, take_at, take-take}
 use borrow.Author.Tests.{leb-true, leb-false}
+use Rattle.differ_text.specs.declared.Page.{Page}
 use Rattle.differ_text.specs.Pieces.{Lays}
+use Rattle.differ_text.specs.Puts.{Puts}
 
 module _ (l o : List ℕ) (n : ℕ) (e : List ℕ) (lays : Lays l o n e) where
   pub same_room : length e ≡ length o
@@ -76,3 +79,30 @@ shown_of l o n e lays = ap₂ take lays.is lays.leaves ∙ take-take (min (lengt
         let h : length o < length l = leb-false (length l) (length o) p in
         let is : min (length l) (length o) ≡ length o = omega arith in
         ap (λ (m : ℕ). take m (l ++ drop (length l) o)) is ∙ take-append-le (length o) l (drop (length l) o) (omega arith)
+
+-- ---- a page
+
+pub puts-nothing : (p : Page) → Puts [] p p
+puts-nothing p = record { same_reference = refl; laid = λ l o lays. rw append-nil lays }
+
+-- a text behind a text
+pub then_puts : {x y : List ℕ} {p q r : Page} → Puts x p q → Puts y q r → Puts (x ++ y) p r
+then_puts {x = x} {y = y} {r = r} a b =
+    record {
+      same_reference = b.same_reference ∙ a.same_reference;
+      laid = λ l o lays. laid_as ((l ++ x) ++ y) o _ _ (b.laid (l ++ x) o (a.laid l o lays)) (l ++ (x ++ y)) (append_assoc l x y);
+    }
+
+-- the same text, otherwise written
+pub puts_as : {x y : List ℕ} {p q : Page} → Puts x p q → x ≡ y → Puts y p q
+puts_as a is = rw is at a
+
+-- what f makes of the first elements, and of the next one
+pub puts_one : (f : List ℕ → List ℕ) → ((a b : List ℕ) → f (a ++ b) ≡ f a ++ f b) → (bs : List ℕ) (i : ℕ) → i < length bs
+    → {p q r : Page} → Puts (f (take i bs)) p q → Puts (f (get_or bs i 0 ∷ [])) q r → Puts (f (take (i + 1) bs)) p r
+puts_one f hom bs i h a b =
+    puts_as (then_puts a b) (sym (hom (take i bs) (get_or bs i 0 ∷ [])) ∙ ap f (sym (take-suc bs i 0 h) ∙ ap (λ (n : ℕ). take n bs) (sym (add-one i))))
+
+-- who begins a page and lays a text in it
+pub laid_whole : {x o e : List ℕ} {n : ℕ} {p q : Page} → Lays [] o p.at p.out.now → Puts x p q → n ≡ q.at → e ≡ q.out.now → Lays x o n e
+laid_whole {x = x} {o = o} start a at is = rw (at, is) (a.laid [] o start)

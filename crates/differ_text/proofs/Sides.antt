@@ -16,6 +16,15 @@ use Rattle.text.specs.Written.{written, shown}
 use Rattle.text.specs.declared.Text.{Text}
 use Rattle.text.proofs.Texts.{shown-written}
 use Rattle.text.proofs.Lengths.{number-length, length-hex_of}
+use Rattle.std.specs.declared.result.Result.{Result}
+use Rattle.std.specs.declared.result.Result.TheVariants.{Ok, Err}
+use Rattle.bundle_format.specs.Answers.{kind_at, state_at}
+use Rattle.bundle_format.specs.declared.Kind.{Kind}
+use Rattle.bundle_format.specs.declared.Kind.TheVariants.{Flag, Number, Text as Words}
+use Rattle.bundle_format.specs.declared.NoKind.{NoKind}
+use Rattle.bundle_format.specs.declared.NoState.{NoState}
+use Rattle.bundle_format.specs.declared.State.{State}
+use Rattle.bundle_format.specs.declared.State.TheVariants.{Refused, Absent, Unknown, Value}
 use Rattle.bundle_format.specs.Reader.{ABSENT, UNKNOWN, VALUE, Answer, value, absent, unknown, refused, meant}
 use Rattle.bundle_format.specs.declared.Told.{Told}
 use Rattle.differ_text.specs.Rendered.{plain, escaped_byte, escaped, flag_word, number_word, text_word, side_text, line_text}
@@ -49,49 +58,86 @@ escaped_one b = sym (append-nil (escaped_byte b))
 
 -- ---- a value, by its kind
 
-module _ (kind n : ℕ) (body : List ℕ) (is : n ≡ from_bytes (take 8 body)) where
-  pub flag_text : kind ≡ 0 → flag_word ++ decimal_of n ≡ side_text (value kind body)
-  unfolding side_text
-  flag_text e = ap (λ (m : ℕ). flag_word ++ decimal_of m) is ∙ ap (λ (k : ℕ). side_text (value k body)) (sym e)
+kind_text : List ℕ → Result Kind NoKind → List ℕ
+kind_text body (Ok Flag) = flag_word ++ decimal_of (from_bytes (take 8 body))
+kind_text body (Ok Number) = number_word ++ decimal_of (from_bytes (take 8 body))
+kind_text body (Ok Words) = text_word ++ escaped body ++ (34 ∷ [])
+kind_text body (Err e) = text_word ++ escaped body ++ (34 ∷ [])
 
-  pub number_text : kind ≡ 1 → number_word ++ decimal_of n ≡ side_text (value kind body)
-  unfolding side_text
-  number_text e = ap (λ (m : ℕ). number_word ++ decimal_of m) is ∙ ap (λ (k : ℕ). side_text (value k body)) (sym e)
+by_kind : (kind : ℕ) (body : List ℕ) → kind_text body (kind_at kind) ≡ side_text (value kind body)
+unfolding kind_text side_text
+by_kind zero body = refl
+by_kind (suc zero) body = refl
+by_kind (suc (suc zero)) body = refl
+by_kind (suc (suc (suc kind))) body = refl
 
-pub other_text : (kind : ℕ) (body : List ℕ) → kind ≢ 0 → kind ≢ 1 → text_word ++ escaped body ++ (34 ∷ []) ≡ side_text (value kind body)
-unfolding side_text
-other_text zero body z o = absurd (z refl)
-other_text (suc zero) body z o = absurd (o refl)
-other_text (suc (suc kind)) body z o = refl
+module _ (kind : ℕ) (body : List ℕ) where
+  pub flag_text : Ok Flag ≡ kind_at kind → flag_word ++ decimal_of (from_bytes (take 8 body)) ≡ side_text (value kind body)
+  unfolding kind_text
+  flag_text e = ap (kind_text body) e ∙ by_kind kind body
+
+  pub number_text : Ok Number ≡ kind_at kind → number_word ++ decimal_of (from_bytes (take 8 body)) ≡ side_text (value kind body)
+  unfolding kind_text
+  number_text e = ap (kind_text body) e ∙ by_kind kind body
+
+  pub text_text : Ok Words ≡ kind_at kind → text_word ++ escaped body ++ (34 ∷ []) ≡ side_text (value kind body)
+  unfolding kind_text
+  text_text e = ap (kind_text body) e ∙ by_kind kind body
+
+  pub no_kind_text : (e : NoKind) → Err e ≡ kind_at kind → text_word ++ escaped body ++ (34 ∷ []) ≡ side_text (value kind body)
+  unfolding kind_text
+  no_kind_text n e = ap (kind_text body) e ∙ by_kind kind body
 
 -- ---- an answer, by its state
 
 module _ (b : List ℕ) (t : Told) where
-  by_state : (s : ℕ) → Answer
-  by_state s = cond (eqb s VALUE) (value t.kind (take t.len (drop t.at b))) (cond (eqb s UNKNOWN) unknown (cond (eqb s ABSENT) absent refused))
+  by_state : Result State NoState → Answer
+  by_state (Ok Value) = value t.kind (take t.len (drop t.at b))
+  by_state (Ok Unknown) = unknown
+  by_state (Ok Absent) = absent
+  by_state (Ok Refused) = refused
+  by_state (Err e) = refused
 
-  meant_by : meant b t ≡ by_state t.state
-  unfolding meant by_state
-  meant_by = refl
+  by_number : (s : ℕ) → by_state (state_at s) ≡ cond (eqb s VALUE) (value t.kind (take t.len (drop t.at b))) (cond (eqb s UNKNOWN) unknown (cond (eqb s ABSENT) absent refused))
+  unfolding by_state
+  by_number zero = refl
+  by_number (suc zero) = refl
+  by_number (suc (suc zero)) = refl
+  by_number (suc (suc (suc zero))) = refl
+  by_number (suc (suc (suc (suc s)))) = rw (ne_eqb (suc (suc (suc (suc s)))) 3 (λ e. omega arith), ne_eqb (suc (suc (suc (suc s)))) 2 (λ e. omega arith), ne_eqb (suc (suc (suc (suc s)))) 1 (λ e. omega arith))
+
+  told : (r : Result State NoState) → r ≡ state_at t.state → by_state r ≡ meant b t
+  unfolding meant
+  told r e = ap by_state e ∙ by_number t.state
+
+  pub told-value : Ok Value ≡ state_at t.state → value t.kind (take t.len (drop t.at b)) ≡ meant b t
+  unfolding by_state
+  told-value = told (Ok Value)
+
+  pub told-unknown : Ok Unknown ≡ state_at t.state → unknown ≡ meant b t
+  unfolding by_state
+  told-unknown = told (Ok Unknown)
+
+  pub told-absent : Ok Absent ≡ state_at t.state → absent ≡ meant b t
+  unfolding by_state
+  told-absent = told (Ok Absent)
+
+  pub told-refused : Ok Refused ≡ state_at t.state → refused ≡ meant b t
+  unfolding by_state
+  told-refused = told (Ok Refused)
+
+  pub told-no_state : (n : NoState) → Err n ≡ state_at t.state → refused ≡ meant b t
+  unfolding by_state
+  told-no_state n = told (Err n)
 
   pub value-meant : t.state ≡ VALUE → meant b t ≡ value t.kind (take t.len (drop t.at b))
-  unfolding by_state
-  value-meant e = meant_by ∙ ap by_state e
+  value-meant e = sym (told-value (ap state_at (sym e)))
 
   pub unknown-meant : t.state ≡ UNKNOWN → meant b t ≡ unknown
-  unfolding by_state
-  unknown-meant e = meant_by ∙ ap by_state e
+  unknown-meant e = sym (told-unknown (ap state_at (sym e)))
 
   pub absent_meant : t.state ≡ ABSENT → meant b t ≡ absent
-  unfolding by_state
-  absent_meant e = meant_by ∙ ap by_state e
-
-  pub refused-meant : t.state ≢ VALUE → t.state ≢ UNKNOWN → t.state ≢ ABSENT → meant b t ≡ refused
-  unfolding by_state
-  refused-meant v u a =
-      meant_by
-      ∙ ap (λ (x : Bool). cond x (value t.kind (take t.len (drop t.at b))) (cond (eqb t.state UNKNOWN) unknown (cond (eqb t.state ABSENT) absent refused))) (ne_eqb t.state VALUE v)
-      ∙ ap₂ (λ (x y : Bool). cond x unknown (cond y absent refused)) (ne_eqb t.state UNKNOWN u) (ne_eqb t.state ABSENT a)
+  absent_meant e = sym (told-absent (ap state_at (sym e)))
 
 -- ---- a body, as far as its bundle reaches
 

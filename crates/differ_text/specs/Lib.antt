@@ -2,3 +2,4 @@
 pub mod Rendered
 pub mod Pieces
 pub mod Promises
+pub mod Puts

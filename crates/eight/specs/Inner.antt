@@ -1,15 +1,13 @@
 -- Inner: four states, kept word by word in four lists, what a function does in every lane, and fours of them side by side.
-use Rattle.std.specs.Prelude.{◌≡◌, Bool, true, List, ℕ, zero, suc, ◌<◌, get_or}
+use Rattle.std.specs.Prelude.{◌≡◌, Bool, List, ℕ, zero, suc, ◌<◌, get_or, Option, Some, None}
 use Rattle.published.specs.Gift128.{rounds_all}
 use Rattle.published.specs.Seen.{read_in, write_in}
 use Rattle.primitives.specs.declared.State.{State}
 use Rattle.primitives.specs.Words.{swapped_low, swapped_high}
 use Rattle.primitives.specs.Packed.{block_of, state_of}
 use Rattle.round_words.specs.Arranged.{pairs_from}
-use Rattle.quintuple.specs.declared.Part.{Part}
-use Rattle.quintuple.specs.Inner.{unfive_of}
 use Rattle.eight.specs.declared.Lanes.{Lanes}
-use Rattle.eight.specs.declared.Three.{Three}
+use Rattle.eight.specs.declared.Fours.{Fours}
 
 -- the state of lane k
 abbrev pub state_at : (a b c d : List ℕ) → ℕ → State
@@ -22,15 +20,31 @@ lane_at s k = state_at s.a s.b s.c s.d k
 pub record Holds (g : ℕ → State) (r : Lanes) : Type 0 where
   pub lane : (k : ℕ) → k < 4 → lane_at r k ≡ g k
 
--- each of the four states has gone through f
-abbrev pub Each : (State → State) → Lanes → Lanes → Type 0
-Each f s = Holds (λ k. f (lane_at s k))
+-- each of the four states has become one that R has for it
+pub record EachBy (R : State → State → Type 0) (s r : Lanes) : Type 0 where
+  pub lane : (k : ℕ) → k < 4 → R (lane_at s k) (lane_at r k)
 
--- fours that have gone through f, the third where it is wanted
-pub record Through (f : State → State) (third : Bool) (s r : Three) : Type 0 where
-  pub x_gone : Each f s.x r.x
-  pub y_gone : Each f s.y r.y
-  pub z_gone : third ≡ true → Each f s.z r.z
+-- four where there were four
+abbrev pub IfFour : (State → State → Type 0) → Option Lanes → Option Lanes → Type 0
+IfFour R (Some s) (Some r) = EachBy R s r
+IfFour R None None = Unit {0}
+IfFour R _ _ = ⊥
+
+-- fours, two of them or three
+pub record EveryBy (R : State → State → Type 0) (s r : Fours) : Type 0 where
+  pub x_gone : EachBy R s.x r.x
+  pub y_gone : EachBy R s.y r.y
+  pub z_gone : IfFour R s.z r.z
+
+-- a state that has gone through f
+abbrev pub Gone : (State → State) → State → State → Type 0
+Gone f x y = y ≡ f x
+
+abbrev pub Each : (State → State) → Lanes → Lanes → Type 0
+Each f = EachBy (Gone f)
+
+abbrev pub Through : (State → State) → Fours → Fours → Type 0
+Through f = EveryBy (Gone f)
 
 -- the state of the block that one order reads of the bytes that another wrote
 abbrev pub rewritten : (from to : ℕ) → State → State
@@ -44,10 +58,6 @@ arriving (suc _) s = s
 abbrev pub leaving : (order : ℕ) → State → State
 leaving zero s = rewritten 0 1 s
 leaving (suc _) s = s
-
--- five rounds undone, of four words of 32 bits
-abbrev pub undone : Part → State → State
-undone p s = unfive_of p (state_of (block_of s))
 
 -- the forty rounds, done or undone, by any eighty words
 abbrev pub forty : (back : Bool) → List ℕ → State → State

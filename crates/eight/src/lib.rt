@@ -8,16 +8,17 @@ ghost use Rattle.published.specs.Gift128.{rounds_all};
 ghost use Rattle.published.specs.Seen.{is_order, write_in, seen};
 ghost use Rattle.primitives.specs.Packed.{block_of};
 ghost use Rattle.round_words.specs.Arranged.{pairs_from};
+ghost use Rattle.packing.specs.Orders.{order_number};
 ghost use Rattle.packing.specs.Packing.{packed};
-ghost use Rattle.quintuple.specs.Inner.{five_of};
 ghost use Rattle.eight.specs.Groups.{in_groups};
-ghost use Rattle.eight.specs.Inner.{Holds, Each, Through, lane_at, rewritten, arriving, leaving, undone, forty, crossed};
+ghost use Rattle.eight.specs.Inner.{Holds, EachBy, EveryBy, Each, Through, lane_at, rewritten, arriving, leaving, forty, crossed};
 
-use packing::{NUMBER, is_order, packing_words, unpacking_words};
+use packing::{Order, is_order, packing_words, unpacking_words};
 use primitives::{State, swapmove};
 use quintuple::{Part, by_part, inv_by_part, part_at};
 
 // Four states, word by word: the words s0 of all of them, s1, s2 and s3. Four arrays, because a wide register then has the same word of several lanes.
+// Stays: arrays side by side, for the compiler, as the line above says.
 #[derive(Clone, Copy)]
 struct Lanes {
     a: [u32; 4],
@@ -91,179 +92,86 @@ fn scatter(s: State) -> State
 
 // ---- in every lane the same
 
-fn each_gathered(s: Lanes) -> Lanes
-    ensures { Each (rewritten 1 0) s result }
+// For each closure the compiler makes a function of its own, with one call in the loop's body. The arrays are the function's own while it works, and are stored once.
+// Stays: an index, since the loop reads and writes four arrays at the same place, and after an `iter_mut` a proof knows no element.
+fn each<F: Fn(State) -> State>(s: &mut Lanes, f: F)
+    requires { F.IsAlwaysCallable f }
+    ensures { EachBy (F.post f) s.old s.new }
 {
     let mut a = s.a;
     let mut b = s.b;
     let mut c = s.c;
     let mut d = s.d;
     for l in 0..4 {
-        let x = State {
+        let t = f(State {
             s0: a[l],
             s1: b[l],
             s2: c[l],
             s3: d[l],
-        };
-        let t = gather(x);
+        });
         a[l] = t.s0;
         b[l] = t.s1;
         c[l] = t.s2;
         d[l] = t.s3;
     }
-    Lanes { a, b, c, d }
-}
-
-fn each_scattered(s: Lanes) -> Lanes
-    ensures { Each (rewritten 0 1) s result }
-{
-    let mut a = s.a;
-    let mut b = s.b;
-    let mut c = s.c;
-    let mut d = s.d;
-    for l in 0..4 {
-        let x = State {
-            s0: a[l],
-            s1: b[l],
-            s2: c[l],
-            s3: d[l],
-        };
-        let t = scatter(x);
-        a[l] = t.s0;
-        b[l] = t.s1;
-        c[l] = t.s2;
-        d[l] = t.s3;
-    }
-    Lanes { a, b, c, d }
-}
-
-fn each_round(s: Lanes, p: Part) -> Lanes
-    ensures { Each (five_of p) s result }
-{
-    let mut a = s.a;
-    let mut b = s.b;
-    let mut c = s.c;
-    let mut d = s.d;
-    for l in 0..4 {
-        let x = State {
-            s0: a[l],
-            s1: b[l],
-            s2: c[l],
-            s3: d[l],
-        };
-        let t = by_part(x, p);
-        a[l] = t.s0;
-        b[l] = t.s1;
-        c[l] = t.s2;
-        d[l] = t.s3;
-    }
-    Lanes { a, b, c, d }
-}
-
-fn each_unround(s: Lanes, p: Part) -> Lanes
-    ensures { Each (undone p) s result }
-{
-    let mut a = s.a;
-    let mut b = s.b;
-    let mut c = s.c;
-    let mut d = s.d;
-    for l in 0..4 {
-        let x = State {
-            s0: a[l],
-            s1: b[l],
-            s2: c[l],
-            s3: d[l],
-        };
-        let t = inv_by_part(x, p);
-        a[l] = t.s0;
-        b[l] = t.s1;
-        c[l] = t.s2;
-        d[l] = t.s3;
-    }
-    Lanes { a, b, c, d }
+    *s = Lanes { a, b, c, d };
 }
 
 // ---- two fours or three
 
 #[derive(Clone, Copy)]
-struct Three {
+struct Fours {
     x: Lanes,
     y: Lanes,
-    z: Lanes,
+    z: Option<Lanes>,
 }
 
-// The third four where there is one.
-fn some_round(on: bool, s: Lanes, p: Part) -> Lanes
-    ensures { on ≡ true → Each (five_of p) s result }
+fn every<F: Fn(State) -> State>(s: &mut Fours, f: F)
+    requires { F.IsAlwaysCallable f }
+    ensures { EveryBy (F.post f) s.old s.new }
 {
-    if on {
-        return each_round(s, p);
+    each(&mut s.x, &f);
+    each(&mut s.y, &f);
+    if let Some(z) = &mut s.z {
+        each(z, &f);
     }
-    s
-}
-
-fn some_unround(on: bool, s: Lanes, p: Part) -> Lanes
-    ensures { on ≡ true → Each (undone p) s result }
-{
-    if on {
-        return each_unround(s, p);
-    }
-    s
 }
 
 // ---- the forty rounds
 
 // The words of a quintuple and its constants are read once for all lanes.
-fn encrypt_lanes(s: Three, rkey: &[u32], third: bool) -> Three
-    requires { length rkey.now ≡ 80 }
-    ensures { Through (forty false rkey.now) third s result }
+// Stays: a function each way; they share `every`, and what is left differs in the step and in the end that the count begins at.
+fn encrypt_lanes(s: &mut Fours, rkey: &[u32; 80])
+    ensures { Through (forty false rkey.now) s.old s.new }
 {
-    let mut x = s.x;
-    let mut y = s.y;
-    let mut z = s.z;
-    let mut i: usize = 0;
-    while i < 40 {
-        let at = 2 * i;
-        let p = part_at(&rkey[at..], i);
-        x = each_round(x, p);
-        y = each_round(y, p);
-        z = some_round(third, z, p);
-        i += 5;
+    for n in 0..8 {
+        let p = part_at(&rkey[10 * n..], 5 * n);
+        every(s, |x| by_part(x, p));
     }
-    Three { x, y, z }
 }
 
-fn decrypt_lanes(s: Three, rkey: &[u32], third: bool) -> Three
-    requires { length rkey.now ≡ 80 }
-    ensures { Through (forty true rkey.now) third s result }
+fn decrypt_lanes(s: &mut Fours, rkey: &[u32; 80])
+    ensures { Through (forty true rkey.now) s.old s.new }
 {
-    let mut x = s.x;
-    let mut y = s.y;
-    let mut z = s.z;
-    let mut i: usize = 40;
-    while 0 < i {
-        i -= 5;
-        let at = 2 * i;
-        let q = part_at(&rkey[at..], i);
-        x = each_unround(x, q);
-        y = each_unround(y, q);
-        z = some_unround(third, z, q);
+    for n in (0..8).rev() {
+        let q = part_at(&rkey[10 * n..], 5 * n);
+        every(s, |x| inv_by_part(x, q));
     }
-    Three { x, y, z }
 }
 
-fn through(s: Three, rkey: &[u32], back: bool, third: bool) -> Three
-    requires { length rkey.now ≡ 80 }
-    ensures { Through (forty back rkey.now) third s result }
+fn through(s: &mut Fours, rkey: &[u32; 80], back: bool)
+    ensures { Through (forty back rkey.now) s.old s.new }
 {
     if back {
-        return decrypt_lanes(s, rkey, third);
+        decrypt_lanes(s, rkey);
+    } else {
+        encrypt_lanes(s, rkey);
     }
-    encrypt_lanes(s, rkey, third)
 }
 
 // ---- bytes: read and put as order 1 has them, in which no bit moves
 
+// Stays: an index, here and in `put`, since it is the place of the bytes and of a word in each of four arrays.
 fn read(input: &[u8]) -> Lanes
     requires { length input.now ≡ 64 }
     ensures { Holds (λ k. packed 1 (take 16 (drop (16 * k) input.now))) result }
@@ -305,98 +213,67 @@ fn put(s: Lanes, output: &mut [u8])
     }
 }
 
-// What was read, as the order has it; and what is to be put.
-fn arrive(order: u32, s: Lanes) -> Lanes
-    requires { is_order order ≡ true }
-    ensures { Each (arriving order) s result }
-{
-    if order == NUMBER {
-        return each_gathered(s);
-    }
-    s
-}
-
-fn leave(order: u32, s: Lanes) -> Lanes
-    requires { is_order order ≡ true }
-    ensures { Each (leaving order) s result }
-{
-    if order == NUMBER {
-        return each_scattered(s);
-    }
-    s
-}
-
 // Four blocks of the input, as the order has them, and put.
-fn taken(order: u32, input: &[u8]) -> Lanes
-    requires order_value { is_order order ≡ true }
-    requires input_len { length input.now ≡ 64 }
-    ensures { Holds (λ k. arriving order (packed 1 (take 16 (drop (16 * k) input.now)))) result }
+fn taken(order: Order, input: &[u8]) -> Lanes
+    requires { length input.now ≡ 64 }
+    ensures { Holds (λ k. arriving (order_number order) (packed 1 (take 16 (drop (16 * k) input.now)))) result }
 {
-    arrive(order, read(input))
+    let mut s = read(input);
+    if let Order::Number = order {
+        each(&mut s, gather);
+    }
+    s
 }
 
-fn given(order: u32, s: Lanes, output: &mut [u8])
-    requires order_value { is_order order ≡ true }
-    requires output_len { length output.old ≡ 64 }
-    ensures { output.new ≡ joined 4 (λ k. write_in 1 (block_of (leaving order (lane_at s k)))) }
+fn given(order: Order, s: Lanes, output: &mut [u8])
+    requires { length output.old ≡ 64 }
+    ensures { output.new ≡ joined 4 (λ k. write_in 1 (block_of (leaving (order_number order) (lane_at s k)))) }
 {
-    put(leave(order, s), output);
+    let mut t = s;
+    if let Order::Number = order {
+        each(&mut t, scatter);
+    }
+    put(t, output);
 }
 
 // ---- groups
 
 // From four to twelve blocks: the first four, the last four and, if there are more than eight, the four after the first. What they have in common is done twice,
 // to the same bytes.
-fn group(order: u32, rkey: &[u32], input: &[u8], output: &mut [u8], back: bool)
-    requires order_value { is_order order ≡ true }
-    requires rkey_len { length rkey.now ≡ 80 }
+fn group(order: Order, rkey: &[u32; 80], input: &[u8], output: &mut [u8], back: bool)
     requires input_len { (length input.now % 16 ≡ 0) × (64 ≤ length input.now) × (length input.now ≤ 192) }
     requires output_len { length output.old ≡ length input.now }
-    ensures { output.new ≡ all_of 16 (seen order (rounds_all back (pairs_from 0 rkey.now))) input.now }
+    ensures { output.new ≡ all_of 16 (seen (order_number order) (rounds_all back (pairs_from 0 rkey.now))) input.now }
 {
     let e = input.len() - 64;
     let x = taken(order, &input[0..64]);
     let y = taken(order, &input[e..]);
-    if 128 < input.len() {
-        let z = taken(order, &input[64..128]);
-        let t = through(Three { x, y, z }, rkey, back, true);
-        given(order, t.x, &mut output[0..64]);
-        given(order, t.z, &mut output[64..128]);
-        given(order, t.y, &mut output[e..]);
-        return;
+    let z = if 128 < input.len() {
+        Some(taken(order, &input[64..128]))
+    } else {
+        None
+    };
+    let mut t = Fours { x, y, z };
+    through(&mut t, rkey, back);
+    given(order, t.x, &mut output[0..64]);
+    if let Some(z) = t.z {
+        given(order, z, &mut output[64..128]);
     }
-    let u = through(Three { x, y, z: x }, rkey, back, false);
-    given(order, u.x, &mut output[0..64]);
-    given(order, u.y, &mut output[e..]);
+    given(order, t.y, &mut output[e..]);
 }
 
 // Whether there is such an order, there are eighty words, the input is four whole blocks or more and the output as long.
 pub fn in_groups(order: u32, words: usize, input: usize, output: usize) -> bool
     ensures { result ≡ in_groups order words input output }
 {
-    if !is_order(order) {
-        return false;
-    }
-    if words != 80 {
-        return false;
-    }
-    if input % 16 != 0 {
-        return false;
-    }
-    if input < 64 {
-        return false;
-    }
-    output == input
+    is_order(order) && words == 80 && input % 16 == 0 && 64 <= input && output == input
 }
 
 // How many bytes the next group is, of those that are left: eight blocks, and at the end all, so that never less than four are left.
 fn width(left: usize) -> usize
     ensures { result ≡ cond (leb left 192) left 128 }
 {
-    if left <= 192 {
-        return left;
-    }
-    128
+    if left <= 192 { left } else { 128 }
 }
 
 // All the blocks, if there are four or more, by any eighty words, forty rounds done or undone. An output for which the lengths or the order are not right stays as it is.
@@ -406,10 +283,14 @@ pub fn groups(order: u32, rkey: &[u32], input: &[u8], output: &mut [u8], back: b
     if !in_groups(order, rkey.len(), input.len(), output.len()) {
         return;
     }
+    let (Ok(named), Some(words)) = (Order::try_from(order), rkey.as_array::<80>()) else {
+        return;
+    };
+    // Stays: a `while`, since the groups are not of one length, and after a write through `chunks_mut` a proof knows no element of the output.
     let mut a: usize = 0;
     while a < input.len() {
         let e = a + width(input.len() - a);
-        group(order, rkey, &input[a..e], &mut output[a..e], back);
+        group(named, words, &input[a..e], &mut output[a..e], back);
         a = e;
     }
 }

@@ -1,7 +1,6 @@
 -- Laws of the cipher's calls.
 pub mod Answers
 pub mod Blocks
-pub mod Many
 pub mod OrderZero
 pub mod OneOutcome
 pub mod AnyWords

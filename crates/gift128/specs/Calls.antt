@@ -1,5 +1,8 @@
 -- What each call promises: its number, by its refusals in document 01's order, and what then stands in the buffer that was lent to it.
 use Rattle.std.specs.Prelude.{Bool, List, ℕ, eqb, length, take, replicate}
+use Rattle.std.specs.declared.result.Result.{Result}
+use Rattle.std.specs.declared.result.Result.TheVariants.{Ok, Err}
+use Rattle.answers.specs.declared.Refusal.{Refusal}
 use Rattle.answers.specs.Numbers.{BAD_WORD_COUNT, BAD_ORDER}
 use Rattle.answers.specs.Order.{unless, if_done}
 use Rattle.answers.specs.Outcome.{Gives}
@@ -9,6 +12,7 @@ use Rattle.published.specs.Gift128.{pairs_of, rounds128, rounds_all}
 use Rattle.published.specs.Calls.{block_code, key_code, blocks_code, many_code}
 use Rattle.published.specs.Blocks.{all_of}
 use Rattle.round_words.specs.Arranged.{pairs_from}
+use Rattle.gift128.specs.declared.Gift128.{Gift128}
 use Rattle.key_schedule.specs.Expand.{expand_code, expanded}
 
 -- ---- the numbers, by the order's number and the lengths of what is lent
@@ -68,6 +72,11 @@ MakesOneRound key block = Gives (key_code (length key) (length block)) (after_on
 -- a block by the words that a `Gift128` keeps (making one promises what expansion into eighty zeros does: `Expands`)
 abbrev pub CiphersBlockIn : (back : Bool) (order : ℕ) (words block : List ℕ) → ℕ → List ℕ → Type 0
 CiphersBlockIn back order words block = Gives (order_code order (block_code (length block))) (seen order (rounds_by back words) block) block
+
+-- the words of what making a cipher answers: of the cipher, or after a refusal, which stands for the cipher by default, eighty zeros
+abbrev pub words_made : Result Gift128 Refusal → List ℕ
+words_made (Ok cipher) = cipher.k
+words_made (Err refusal) = replicate 80 0
 
 -- the words of a cipher made from any key
 abbrev pub new_words : List ℕ → List ℕ

@@ -1,83 +1,73 @@
-// The number that each call gives, by the order's number and the lengths of what is lent: its refusals, tried in the documents' order, and nothing else.
-ghost use Rattle.std.specs.Prelude.{◌≡◌};
+// The refusals of each call, by the order's number and the lengths of what is lent, tried in the documents' order, and nothing else.
+ghost use Rattle.std.specs.Prelude.{◌≡◌, eqb, length, ⊤};
+ghost use Rattle.std.specs.Result.{MatchResult};
+ghost use Rattle.answers.specs.Numbers.{BAD_WORD_COUNT};
+ghost use Rattle.answers.specs.Order.{unless};
+ghost use Rattle.answers.specs.Refusals.{number};
 ghost use Rattle.published.specs.Calls.{block_code, key_code, blocks_code, many_code};
-ghost use Rattle.gift128.specs.Calls.{order_code, words_code, many_words_code};
+ghost use Rattle.gift128.specs.Calls.{order_code};
 
 use crate::Gift128;
-use answers::{
-    BAD_BLOCK_LENGTH, BAD_KEY_LENGTH, BAD_ORDER, BAD_OUTPUT_LENGTH, BAD_WORD_COUNT, DONE,
-};
+use answers::Refusal;
 use packing::is_order;
 
-// 13, and then the call's own number.
-pub(crate) fn in_order(order: u32, own: u32) -> u32
-    ensures { result ≡ order_code order own }
+// 13, before the call's own refusals.
+pub(crate) fn order_code(order: u32) -> Result<(), Refusal>
+    ensures { number result ≡ order_code order 0 }
 {
     if !is_order(order) {
-        return BAD_ORDER;
+        return Err(Refusal::BadOrder);
     }
-    own
+    Ok(())
 }
 
-// One block by a `Gift128`: 2.
-fn block_code(block: usize) -> u32
-    ensures { result ≡ block_code block }
+// Round words, before what is asked of the blocks: 4.
+pub(crate) fn eighty(words: &[u32]) -> Result<&[u32; 80], Refusal>
+    ensures code { number result ≡ unless (eqb (length words.now) 80) BAD_WORD_COUNT 0 }
+    ensures kept { MatchResult result (λ kept. kept.now ≡ words.now) (λ _. ⊤) }
+{
+    words.as_array().ok_or(Refusal::BadWordCount)
+}
+
+// One block, by a `Gift128` or, after them, by round words: 2.
+pub(crate) fn block_code(block: usize) -> Result<(), Refusal>
+    ensures { number result ≡ block_code block }
 {
     if block != Gift128::BLOCK_SIZE {
-        return BAD_BLOCK_LENGTH;
+        return Err(Refusal::BadBlockLength);
     }
-    DONE
+    Ok(())
 }
 
 // By a key: 1, 2.
-pub(crate) fn key_code(key: usize, block: usize) -> u32
-    ensures { result ≡ key_code key block }
+pub(crate) fn key_code(key: usize, block: usize) -> Result<(), Refusal>
+    ensures { number result ≡ key_code key block }
 {
     if key != Gift128::KEY_SIZE {
-        return BAD_KEY_LENGTH;
+        return Err(Refusal::BadKeyLength);
     }
     block_code(block)
 }
 
-// By round words: 4, 2.
-pub(crate) fn words_code(words: usize, block: usize) -> u32
-    ensures { result ≡ words_code words block }
-{
-    if words != 80 {
-        return BAD_WORD_COUNT;
-    }
-    block_code(block)
-}
-
-// Many blocks: 2, 3.
-fn blocks_code(input: usize, output: usize) -> u32
-    ensures { result ≡ blocks_code 16 input output }
+// Many blocks, by round words after them: 2, 3.
+pub(crate) fn blocks_code(input: usize, output: usize) -> Result<(), Refusal>
+    ensures { number result ≡ blocks_code 16 input output }
 {
     if input % Gift128::BLOCK_SIZE != 0 {
-        return BAD_BLOCK_LENGTH;
+        return Err(Refusal::BadBlockLength);
     }
     if output != input {
-        return BAD_OUTPUT_LENGTH;
+        return Err(Refusal::BadOutputLength);
     }
-    DONE
+    Ok(())
 }
 
 // Many blocks by a key: 1, 2, 3.
-pub(crate) fn many_code(key: usize, input: usize, output: usize) -> u32
-    ensures { result ≡ many_code 16 key input output }
+pub(crate) fn many_code(key: usize, input: usize, output: usize) -> Result<(), Refusal>
+    ensures { number result ≡ many_code 16 key input output }
 {
     if key != Gift128::KEY_SIZE {
-        return BAD_KEY_LENGTH;
-    }
-    blocks_code(input, output)
-}
-
-// Many blocks by round words: 4, 2, 3.
-pub(crate) fn many_words_code(words: usize, input: usize, output: usize) -> u32
-    ensures { result ≡ many_words_code words input output }
-{
-    if words != 80 {
-        return BAD_WORD_COUNT;
+        return Err(Refusal::BadKeyLength);
     }
     blocks_code(input, output)
 }

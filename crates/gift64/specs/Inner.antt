@@ -11,6 +11,8 @@ use Rattle.primitives.specs.Words.{permuted}
 use Rattle.quintuple.specs.Boxes.{boxed}
 use Rattle.quintuple.specs.Inner.{block_at, exchanged_of}
 use Rattle.key_schedule.specs.declared.Four.{Four}
+use Rattle.gift64.specs.declared.rounds.Stand.{Stand}
+use Rattle.gift64.specs.declared.rounds.Stand.TheVariants.{Packed, Turned}
 use Rattle.key_schedule.specs.InnerUpdate.{updated}
 
 -- ---- words that stand packed (k = 0) or turned (k = 1)
@@ -40,6 +42,11 @@ subround k s w c = keyed_of (moved_by k (exchanged_of (boxed entry s))) w c
 
 unfoldable pub unsubround : ℕ → State → ℕ → ℕ → State
 unsubround k s w c = exchanged_of (boxed unentry (moved_by k (keyed_of s w c)))
+
+-- how the code names the two
+abbrev pub standing : Stand → ℕ
+standing Packed = 0
+standing Turned = 1
 
 -- ---- what round words stand for
 

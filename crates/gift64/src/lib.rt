@@ -1,5 +1,5 @@
 // GIFT-64: one block and many, by a key. Sliced rounds over the boxes of GIFT-128, by 28 round words.
-#![tactic(auto)]
+#![tactic(auto, unfolding(published::specs::Calls::many_code, published::specs::Calls64::key_code64))]
 
 mod orders;
 mod rounds;
@@ -7,12 +7,13 @@ mod words;
 
 ghost use Rattle.std.specs.Prelude.{◌≡◌, true, false, ◌%◌, length};
 ghost use Rattle.answers.specs.Outcome.{Gives};
+ghost use Rattle.answers.specs.Refusals.{number};
 ghost use Rattle.published.specs.Blocks.{all_of};
 ghost use Rattle.published.specs.Calls.{many_code};
 ghost use Rattle.published.specs.Calls64.{key_code64, CiphersByKey64, CiphersBlocks64};
 ghost use Rattle.gift64.specs.Inner.{crossed_by, crossed};
 
-use answers::DONE;
+use answers::Refusal;
 use orders::{key_code, many_code};
 use packing::{packing_64, unpacking_64};
 use rounds::through;
@@ -20,29 +21,26 @@ use words::expand;
 
 // ---- one block
 
-fn by_key(key: &[u8], block: &mut [u8], back: bool) -> u32
-    ensures { Gives (key_code64 (length key.now) (length block.old)) (crossed back key.now block.old) block.old result block.new }
+fn by_key(key: &[u8], block: &mut [u8], back: bool) -> Result<(), Refusal>
+    ensures { Gives (key_code64 (length key.now) (length block.old)) (crossed back key.now block.old) block.old (number result) block.new }
 {
-    let code = key_code(key.len(), block.len());
-    if code != DONE {
-        return code;
-    }
+    key_code(key.len(), block.len())?;
     let words = expand(key);
     let s = packing_64(block);
     let t = through(s, &words, back);
     unpacking_64(t, block);
-    code
+    Ok(())
 }
 
 // One block by a key, in place. Refusals: 1, 2.
-pub fn encrypt_by_key(key: &[u8], block: &mut [u8]) -> u32
-    ensures { CiphersByKey64 false key.now block.old result block.new }
+pub fn encrypt_by_key(key: &[u8], block: &mut [u8]) -> Result<(), Refusal>
+    ensures { CiphersByKey64 false key.now block.old (number result) block.new }
 {
     by_key(key, block, false)
 }
 
-pub fn decrypt_by_key(key: &[u8], block: &mut [u8]) -> u32
-    ensures { CiphersByKey64 true key.now block.old result block.new }
+pub fn decrypt_by_key(key: &[u8], block: &mut [u8]) -> Result<(), Refusal>
+    ensures { CiphersByKey64 true key.now block.old (number result) block.new }
 {
     by_key(key, block, true)
 }
@@ -50,8 +48,7 @@ pub fn decrypt_by_key(key: &[u8], block: &mut [u8]) -> u32
 // ---- many blocks
 
 // One block from one buffer to another.
-fn into(words: &[u32], input: &[u8], output: &mut [u8], back: bool)
-    requires words_len { length words.now ≡ 28 }
+fn into(words: &[u32; 28], input: &[u8], output: &mut [u8], back: bool)
     requires input_len { length input.now ≡ 8 }
     requires output_len { length output.old ≡ 8 }
     ensures { output.new ≡ crossed_by back words.now input.now }
@@ -62,8 +59,7 @@ fn into(words: &[u32], input: &[u8], output: &mut [u8], back: bool)
 }
 
 // Block n of the output from block n of the input.
-fn all(words: &[u32], input: &[u8], output: &mut [u8], back: bool)
-    requires words_len { length words.now ≡ 28 }
+fn all(words: &[u32; 28], input: &[u8], output: &mut [u8], back: bool)
     requires input_len { length input.now % 8 ≡ 0 }
     requires output_len { length output.old ≡ length input.now }
     ensures { output.new ≡ all_of 8 (crossed_by back words.now) input.now }
@@ -75,27 +71,24 @@ fn all(words: &[u32], input: &[u8], output: &mut [u8], back: bool)
     }
 }
 
-fn many_by_key(key: &[u8], input: &[u8], output: &mut [u8], back: bool) -> u32
-    ensures { Gives (many_code 8 (length key.now) (length input.now) (length output.old)) (all_of 8 (crossed back key.now) input.now) output.old result output.new }
+fn many_by_key(key: &[u8], input: &[u8], output: &mut [u8], back: bool) -> Result<(), Refusal>
+    ensures { Gives (many_code 8 (length key.now) (length input.now) (length output.old)) (all_of 8 (crossed back key.now) input.now) output.old (number result) output.new }
 {
-    let code = many_code(key.len(), input.len(), output.len());
-    if code != DONE {
-        return code;
-    }
+    many_code(key.len(), input.len(), output.len())?;
     let words = expand(key);
     all(&words, input, output, back);
-    code
+    Ok(())
 }
 
 // Many blocks by a key. Refusals: 1, 2, 3.
-pub fn encrypt_blocks(key: &[u8], input: &[u8], output: &mut [u8]) -> u32
-    ensures { CiphersBlocks64 false key.now input.now output.old result output.new }
+pub fn encrypt_blocks(key: &[u8], input: &[u8], output: &mut [u8]) -> Result<(), Refusal>
+    ensures { CiphersBlocks64 false key.now input.now output.old (number result) output.new }
 {
     many_by_key(key, input, output, false)
 }
 
-pub fn decrypt_blocks(key: &[u8], input: &[u8], output: &mut [u8]) -> u32
-    ensures { CiphersBlocks64 true key.now input.now output.old result output.new }
+pub fn decrypt_blocks(key: &[u8], input: &[u8], output: &mut [u8]) -> Result<(), Refusal>
+    ensures { CiphersBlocks64 true key.now input.now output.old (number result) output.new }
 {
     many_by_key(key, input, output, true)
 }

@@ -1,39 +1,40 @@
-// The number that each call gives, by the lengths of what is lent: its refusals, tried in document 01's order, and nothing else.
+// The refusals of each call, by the lengths of what is lent, tried in document 01's order, and nothing else.
 ghost use Rattle.std.specs.Prelude.{◌≡◌};
+ghost use Rattle.answers.specs.Refusals.{number};
 ghost use Rattle.published.specs.Calls.{many_code};
 ghost use Rattle.published.specs.Calls64.{key_code64};
 
-use answers::{BAD_BLOCK_LENGTH, BAD_KEY_LENGTH, BAD_OUTPUT_LENGTH, DONE};
+use answers::Refusal;
 
 const BLOCK_SIZE: usize = 8;
 
 const KEY_SIZE: usize = 16;
 
 // One block by a key: 1, 2.
-pub(crate) fn key_code(key: usize, block: usize) -> u32
-    ensures { result ≡ key_code64 key block }
+pub(crate) fn key_code(key: usize, block: usize) -> Result<(), Refusal>
+    ensures { number result ≡ key_code64 key block }
 {
     if key != KEY_SIZE {
-        return BAD_KEY_LENGTH;
+        return Err(Refusal::BadKeyLength);
     }
     if block != BLOCK_SIZE {
-        return BAD_BLOCK_LENGTH;
+        return Err(Refusal::BadBlockLength);
     }
-    DONE
+    Ok(())
 }
 
 // Many blocks by a key: 1, 2, 3.
-pub(crate) fn many_code(key: usize, input: usize, output: usize) -> u32
-    ensures { result ≡ many_code 8 key input output }
+pub(crate) fn many_code(key: usize, input: usize, output: usize) -> Result<(), Refusal>
+    ensures { number result ≡ many_code 8 key input output }
 {
     if key != KEY_SIZE {
-        return BAD_KEY_LENGTH;
+        return Err(Refusal::BadKeyLength);
     }
     if input % BLOCK_SIZE != 0 {
-        return BAD_BLOCK_LENGTH;
+        return Err(Refusal::BadBlockLength);
     }
     if output != input {
-        return BAD_OUTPUT_LENGTH;
+        return Err(Refusal::BadOutputLength);
     }
-    DONE
+    Ok(())
 }

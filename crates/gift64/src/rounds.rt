@@ -4,7 +4,7 @@
 ghost use Rattle.std.specs.Prelude.{◌≡◌, cond, ltb, length};
 ghost use Rattle.published.specs.Gift64.{rounds64, unrounds64};
 ghost use Rattle.primitives.specs.Packed.{block_of64};
-ghost use Rattle.gift64.specs.Inner.{moved_by, keyed_of, subround, unsubround, constant_word, pairs_in, rounds_by};
+ghost use Rattle.gift64.specs.Inner.{moved_by, keyed_of, standing, subround, unsubround, constant_word, pairs_in, rounds_by};
 
 use primitives::{State, swapmovesingle};
 use quintuple::{exchanged, inv_sbox, sbox};
@@ -45,30 +45,35 @@ fn keyed(s: State, w: u32, c: u32) -> State
     }
 }
 
-// A round from packed words to turned ones, and one back.
-fn round_0(s: State, w: u32, c: u32) -> State
-    ensures { result ≡ subround 0 s w c }
-{
-    keyed(columns(exchanged(sbox(s))), w, c)
+// How the words stand before a round; after it they stand the other way.
+#[derive(Clone, Copy)]
+enum Stand {
+    Packed,
+    Turned,
 }
 
-fn round_1(s: State, w: u32, c: u32) -> State
-    ensures { result ≡ subround 1 s w c }
-{
-    keyed(rows(exchanged(sbox(s))), w, c)
-}
+impl Stand {
+    fn exchange(self, s: State) -> State
+        ensures { result ≡ moved_by (standing self) s }
+    {
+        match self {
+            Stand::Packed => columns(s),
+            Stand::Turned => rows(s),
+        }
+    }
 
-// The same undone: each exchange undoes itself.
-fn unround_0(s: State, w: u32, c: u32) -> State
-    ensures { result ≡ unsubround 0 s w c }
-{
-    exchanged(inv_sbox(columns(keyed(s, w, c))))
-}
+    fn round(self, s: State, w: u32, c: u32) -> State
+        ensures { result ≡ subround (standing self) s w c }
+    {
+        keyed(self.exchange(exchanged(sbox(s))), w, c)
+    }
 
-fn unround_1(s: State, w: u32, c: u32) -> State
-    ensures { result ≡ unsubround 1 s w c }
-{
-    exchanged(inv_sbox(rows(keyed(s, w, c))))
+    // The same undone: each exchange undoes itself.
+    fn unround(self, s: State, w: u32, c: u32) -> State
+        ensures { result ≡ unsubround (standing self) s w c }
+    {
+        exchanged(inv_sbox(self.exchange(keyed(s, w, c))))
+    }
 }
 
 // The round constants as words: the flipped bit on top, and turned in every other round.
@@ -86,42 +91,35 @@ fn round_constant(r: usize) -> u32
 }
 
 // The twenty-eight rounds, two at a time.
-fn encrypt_state(s: State, words: &[u32]) -> State
-    requires { length words.now ≡ 28 }
+fn encrypt_state(s: State, words: &[u32; 28]) -> State
     ensures { block_of64 result ≡ rounds64 (pairs_in 28 0 words.now) 0 (block_of64 s) }
 {
     let mut state = s;
-    let mut i: usize = 0;
-    while i < 28 {
-        let c = round_constant(i);
-        let d = round_constant(i + 1);
-        let t = round_0(state, words[i], c);
-        state = round_1(t, words[i + 1], d);
-        i += 2;
+    for i in 0..14 {
+        let c = round_constant(2 * i);
+        let d = round_constant(2 * i + 1);
+        let t = Stand::Packed.round(state, words[2 * i], c);
+        state = Stand::Turned.round(t, words[2 * i + 1], d);
     }
     state
 }
 
 // And undone, the last first.
-fn decrypt_state(s: State, words: &[u32]) -> State
-    requires { length words.now ≡ 28 }
+fn decrypt_state(s: State, words: &[u32; 28]) -> State
     ensures { block_of64 result ≡ unrounds64 (pairs_in 28 0 words.now) 0 (block_of64 s) }
 {
     let mut state = s;
-    let mut i: usize = 28;
-    while 0 < i {
-        i -= 2;
-        let c = round_constant(i);
-        let d = round_constant(i + 1);
-        let t = unround_1(state, words[i + 1], d);
-        state = unround_0(t, words[i], c);
+    for i in (0..14).rev() {
+        let c = round_constant(2 * i);
+        let d = round_constant(2 * i + 1);
+        let t = Stand::Turned.unround(state, words[2 * i + 1], d);
+        state = Stand::Packed.unround(t, words[2 * i], c);
     }
     state
 }
 
 // Encrypting and decrypting differ in this alone: whether the rounds are done or undone.
-pub(crate) fn through(s: State, words: &[u32], back: bool) -> State
-    requires { length words.now ≡ 28 }
+pub(crate) fn through(s: State, words: &[u32; 28], back: bool) -> State
     ensures { block_of64 result ≡ rounds_by back words.now (block_of64 s) }
 {
     if back {

@@ -16,8 +16,9 @@ ghost use Rattle.bundle_format.specs.Writer.{Writes};
 ghost use Rattle.differ.specs.Difference.{Compares};
 ghost use Rattle.gift_host.specs.Edition.{edition};
 
+use answers::number;
 use bench_lent::Turns;
-use bundle_format::{Asked, Opened, Told, Written};
+use bundle_format::{Asked, Edition, Opened, Told, Written};
 use cmac::{Checked, Fed, Mac, Started};
 use differ::Compared;
 use lane::Lane;
@@ -37,14 +38,14 @@ pub extern "C" fn gift_host_edition() -> u32
 pub extern "C" fn gift_encrypt_by_key(order: u32, key: &[u8], block: &mut [u8]) -> u32
     ensures { CiphersByKeyIn false order key.now block.old result block.new }
 {
-    gift128::encrypt_by_key(order, key, block)
+    number(gift128::encrypt_by_key(order, key, block))
 }
 
 #[unsafe(no_mangle)]
 pub extern "C" fn gift_decrypt_by_key(order: u32, key: &[u8], block: &mut [u8]) -> u32
     ensures { CiphersByKeyIn true order key.now block.old result block.new }
 {
-    gift128::decrypt_by_key(order, key, block)
+    number(gift128::decrypt_by_key(order, key, block))
 }
 
 // The same by the plain engine, which is written to be read and not to be fast, and knows order 0 alone. Refusals: 1, 2.
@@ -52,14 +53,14 @@ pub extern "C" fn gift_decrypt_by_key(order: u32, key: &[u8], block: &mut [u8]) 
 pub extern "C" fn gift_plain_encrypt_by_key(key: &[u8], block: &mut [u8]) -> u32
     ensures { CiphersByKey false key.now block.old result block.new }
 {
-    plain::encrypt_by_key(key, block)
+    number(plain::encrypt_by_key(key, block))
 }
 
 #[unsafe(no_mangle)]
 pub extern "C" fn gift_plain_decrypt_by_key(key: &[u8], block: &mut [u8]) -> u32
     ensures { CiphersByKey true key.now block.old result block.new }
 {
-    plain::decrypt_by_key(key, block)
+    number(plain::decrypt_by_key(key, block))
 }
 
 // One block by round words, any eighty, in place. Refusals: 13, 4, 2.
@@ -67,14 +68,14 @@ pub extern "C" fn gift_plain_decrypt_by_key(key: &[u8], block: &mut [u8]) -> u32
 pub extern "C" fn gift_encrypt_by_words(order: u32, words: &[u32], block: &mut [u8]) -> u32
     ensures { CiphersByWordsIn false order words.now block.old result block.new }
 {
-    gift128::encrypt_by_words(order, words, block)
+    number(gift128::encrypt_by_words(order, words, block))
 }
 
 #[unsafe(no_mangle)]
 pub extern "C" fn gift_decrypt_by_words(order: u32, words: &[u32], block: &mut [u8]) -> u32
     ensures { CiphersByWordsIn true order words.now block.old result block.new }
 {
-    gift128::decrypt_by_words(order, words, block)
+    number(gift128::decrypt_by_words(order, words, block))
 }
 
 // The eighty round words of a key. Refusals: 1, 4.
@@ -82,7 +83,7 @@ pub extern "C" fn gift_decrypt_by_words(order: u32, words: &[u32], block: &mut [
 pub extern "C" fn gift_expand(key: &[u8], words: &mut [u32]) -> u32
     ensures { Expands key.now words.old result words.new }
 {
-    key_schedule::precompute_rkeys(key, words)
+    number(key_schedule::precompute_rkeys(key, words))
 }
 
 // The forty pairs that eighty round words stand for, V and then U of each, and the words that stand for such pairs. Refusals: 4, 3.
@@ -90,14 +91,14 @@ pub extern "C" fn gift_expand(key: &[u8], words: &mut [u32]) -> u32
 pub extern "C" fn gift_pairs(words: &[u32], pairs: &mut [u32]) -> u32
     ensures { TellsPairs words.now pairs.old result pairs.new }
 {
-    round_words::pairs(words, pairs)
+    number(round_words::pairs(words, pairs))
 }
 
 #[unsafe(no_mangle)]
 pub extern "C" fn gift_words(pairs: &[u32], words: &mut [u32]) -> u32
     ensures { TellsWords pairs.now words.old result words.new }
 {
-    round_words::words(pairs, words)
+    number(round_words::words(pairs, words))
 }
 
 // Many blocks by a key, from one buffer to another. Refusals: 13, 1, 2, 3.
@@ -110,7 +111,7 @@ pub extern "C" fn gift_encrypt_blocks(
 ) -> u32
     ensures { CiphersBlocksIn false order key.now input.now output.old result output.new }
 {
-    gift128::encrypt_blocks(order, key, input, output)
+    number(gift128::encrypt_blocks(order, key, input, output))
 }
 
 #[unsafe(no_mangle)]
@@ -122,7 +123,7 @@ pub extern "C" fn gift_decrypt_blocks(
 ) -> u32
     ensures { CiphersBlocksIn true order key.now input.now output.old result output.new }
 {
-    gift128::decrypt_blocks(order, key, input, output)
+    number(gift128::decrypt_blocks(order, key, input, output))
 }
 
 // Many blocks by round words, any eighty, from one buffer to another. Refusals: 13, 4, 2, 3.
@@ -135,7 +136,7 @@ pub extern "C" fn gift_encrypt_blocks_by_words(
 ) -> u32
     ensures { CiphersBlocksByWordsIn false order words.now input.now output.old result output.new }
 {
-    gift128::encrypt_blocks_by_words(order, words, input, output)
+    number(gift128::encrypt_blocks_by_words(order, words, input, output))
 }
 
 #[unsafe(no_mangle)]
@@ -147,7 +148,7 @@ pub extern "C" fn gift_decrypt_blocks_by_words(
 ) -> u32
     ensures { CiphersBlocksByWordsIn true order words.now input.now output.old result output.new }
 {
-    gift128::decrypt_blocks_by_words(order, words, input, output)
+    number(gift128::decrypt_blocks_by_words(order, words, input, output))
 }
 
 // The bench over the host's own records. Opening: 10, 5, 6, 11, 9, 13, 1, 2.
@@ -164,7 +165,7 @@ pub extern "C" fn gift_open_lane(
 ) -> u32
     ensures { Opens lanes.old last lane owner direction order key.now block.now result lanes.new }
 {
-    bench_lent::open_lane(lanes, last, lane, owner, direction, order, key, block)
+    number(bench_lent::open_lane(lanes, last, lane, owner, direction, order, key, block))
 }
 
 // Turns: 10, 8. The last served number goes in, and comes back.
@@ -186,7 +187,7 @@ pub extern "C" fn gift_take(
 ) -> u32
     ensures { Takes lanes.old last lane owner out.old result lanes.new out.new }
 {
-    bench_lent::take(lanes, last, lane, owner, out)
+    number(bench_lent::take(lanes, last, lane, owner, out))
 }
 
 // Closing: 10, 5, 11.
@@ -194,7 +195,7 @@ pub extern "C" fn gift_take(
 pub extern "C" fn gift_close(lanes: &mut [Lane], last: u32, lane: u32, owner: u16) -> u32
     ensures { Closes lanes.old last lane owner result lanes.new }
 {
-    bench_lent::close(lanes, last, lane, owner)
+    number(bench_lent::close(lanes, last, lane, owner))
 }
 
 // CMAC. The tag of a whole message: 1, 2.
@@ -202,7 +203,7 @@ pub extern "C" fn gift_close(lanes: &mut [Lane], last: u32, lane: u32, owner: u1
 pub extern "C" fn gift_mac(key: &[u8], message: &[u8], tag: &mut [u8]) -> u32
     ensures { TagsWhole key.now message.now tag.old result tag.new }
 {
-    cmac::whole(key, message, tag)
+    number(cmac::whole(key, message, tag))
 }
 
 // A tag checked: 1, 2.
@@ -210,7 +211,7 @@ pub extern "C" fn gift_mac(key: &[u8], message: &[u8], tag: &mut [u8]) -> u32
 pub extern "C" fn gift_mac_check(key: &[u8], message: &[u8], tag: &[u8]) -> Checked
     ensures { Checks key.now message.now tag.now result.code result.yes }
 {
-    cmac::check(key, message, tag)
+    cmac::check(key, message, tag).into()
 }
 
 // In pieces, over a state that goes in by value and comes back. A start: 1.
@@ -218,7 +219,7 @@ pub extern "C" fn gift_mac_check(key: &[u8], message: &[u8], tag: &[u8]) -> Chec
 pub extern "C" fn gift_mac_start(key: &[u8]) -> Started
     ensures { Starts key.now result.code result.state }
 {
-    cmac::start(key)
+    cmac::start(key).into()
 }
 
 // A piece: 10.
@@ -226,7 +227,7 @@ pub extern "C" fn gift_mac_start(key: &[u8]) -> Started
 pub extern "C" fn gift_mac_piece(state: Mac, piece: &[u8]) -> Fed
     ensures { Feeds state piece.now result.code result.state }
 {
-    cmac::piece(state, piece)
+    Fed::new(state, cmac::piece(state, piece))
 }
 
 // The tag of a state: 10, 2.
@@ -234,7 +235,7 @@ pub extern "C" fn gift_mac_piece(state: Mac, piece: &[u8]) -> Fed
 pub extern "C" fn gift_mac_tag(state: Mac, tag: &mut [u8]) -> u32
     ensures { TagsState state tag.old result tag.new }
 {
-    cmac::tag(state, tag)
+    number(cmac::tag(state, tag))
 }
 
 // Counter mode. A start gives a stream, which the host keeps: 1, 2.
@@ -242,7 +243,7 @@ pub extern "C" fn gift_mac_tag(state: Mac, tag: &mut [u8]) -> u32
 pub extern "C" fn gift_stream_start(key: &[u8], nonce: &[u8], counter: u32) -> counter::Started
     ensures { StartsStream key.now nonce.now counter result.code result.stream }
 {
-    counter::start(key, nonce, counter)
+    counter::start(key, nonce, counter).into()
 }
 
 // A piece, over the host's own stream: 10, 3, 12. What comes back takes its place.
@@ -254,9 +255,7 @@ pub extern "C" fn gift_stream_piece(
 ) -> u32
     ensures { FeedsStream stream.old input.now output.old result stream.new output.new }
 {
-    let fed = counter::piece(*stream, input, output);
-    *stream = fed.stream;
-    fed.code
+    number(stream.feed(input, output))
 }
 
 // GIFT-64. One block by a key, in place. Refusals: 1, 2.
@@ -264,14 +263,14 @@ pub extern "C" fn gift_stream_piece(
 pub extern "C" fn gift64_encrypt_by_key(key: &[u8], block: &mut [u8]) -> u32
     ensures { CiphersByKey64 false key.now block.old result block.new }
 {
-    gift64::encrypt_by_key(key, block)
+    number(gift64::encrypt_by_key(key, block))
 }
 
 #[unsafe(no_mangle)]
 pub extern "C" fn gift64_decrypt_by_key(key: &[u8], block: &mut [u8]) -> u32
     ensures { CiphersByKey64 true key.now block.old result block.new }
 {
-    gift64::decrypt_by_key(key, block)
+    number(gift64::decrypt_by_key(key, block))
 }
 
 // The same by the plain engine. Refusals: 1, 2.
@@ -279,14 +278,14 @@ pub extern "C" fn gift64_decrypt_by_key(key: &[u8], block: &mut [u8]) -> u32
 pub extern "C" fn gift64_plain_encrypt_by_key(key: &[u8], block: &mut [u8]) -> u32
     ensures { CiphersByKey64 false key.now block.old result block.new }
 {
-    plain::encrypt_64_by_key(key, block)
+    number(plain::encrypt_64_by_key(key, block))
 }
 
 #[unsafe(no_mangle)]
 pub extern "C" fn gift64_plain_decrypt_by_key(key: &[u8], block: &mut [u8]) -> u32
     ensures { CiphersByKey64 true key.now block.old result block.new }
 {
-    plain::decrypt_64_by_key(key, block)
+    number(plain::decrypt_64_by_key(key, block))
 }
 
 // Many blocks by a key, from one buffer to another. Refusals: 1, 2, 3.
@@ -294,14 +293,14 @@ pub extern "C" fn gift64_plain_decrypt_by_key(key: &[u8], block: &mut [u8]) -> u
 pub extern "C" fn gift64_encrypt_blocks(key: &[u8], input: &[u8], output: &mut [u8]) -> u32
     ensures { CiphersBlocks64 false key.now input.now output.old result output.new }
 {
-    gift64::encrypt_blocks(key, input, output)
+    number(gift64::encrypt_blocks(key, input, output))
 }
 
 #[unsafe(no_mangle)]
 pub extern "C" fn gift64_decrypt_blocks(key: &[u8], input: &[u8], output: &mut [u8]) -> u32
     ensures { CiphersBlocks64 true key.now input.now output.old result output.new }
 {
-    gift64::decrypt_blocks(key, input, output)
+    number(gift64::decrypt_blocks(key, input, output))
 }
 
 // The settings bundle (2026-11), by a reader and a writer of edition 1 or 2. One id of a bundle: 1, 20, 21, 22, 23.
@@ -309,14 +308,14 @@ pub extern "C" fn gift64_decrypt_blocks(key: &[u8], input: &[u8], output: &mut [
 pub extern "C" fn gift_bundle_ask_1(key: &[u8], bundle: &[u8], id: u32) -> Asked
     ensures { Asks 1 key.now bundle.now id result.code result.told }
 {
-    bundle_reader::ask_1(key, bundle, id)
+    bundle_reader::ask(Edition::First, key, bundle, id).into()
 }
 
 #[unsafe(no_mangle)]
 pub extern "C" fn gift_bundle_ask_2(key: &[u8], bundle: &[u8], id: u32) -> Asked
     ensures { Asks 2 key.now bundle.now id result.code result.told }
 {
-    bundle_reader::ask_2(key, bundle, id)
+    bundle_reader::ask(Edition::Second, key, bundle, id).into()
 }
 
 // A bundle looked through once: 1, 20, 21, 22, 23.
@@ -324,14 +323,14 @@ pub extern "C" fn gift_bundle_ask_2(key: &[u8], bundle: &[u8], id: u32) -> Asked
 pub extern "C" fn gift_bundle_open_1(key: &[u8], bundle: &[u8]) -> Opened
     ensures { result ≡ opened 1 key.now bundle.now }
 {
-    bundle_reader::open_1(key, bundle)
+    bundle_reader::open(Edition::First, key, bundle)
 }
 
 #[unsafe(no_mangle)]
 pub extern "C" fn gift_bundle_open_2(key: &[u8], bundle: &[u8]) -> Opened
     ensures { result ≡ opened 2 key.now bundle.now }
 {
-    bundle_reader::open_2(key, bundle)
+    bundle_reader::open(Edition::Second, key, bundle)
 }
 
 // Then one id of it, or the entry at a place.
@@ -359,7 +358,7 @@ pub extern "C" fn gift_bundle_write_1(
 ) -> Written
     ensures { Writes 1 key.now rows.now pool.now out.old result.code result.total out.new }
 {
-    bundle_writer::write_1(key, rows, pool, out)
+    bundle_writer::write(Edition::First, key, rows, pool, out).into()
 }
 
 #[unsafe(no_mangle)]
@@ -371,7 +370,7 @@ pub extern "C" fn gift_bundle_write_2(
 ) -> Written
     ensures { Writes 2 key.now rows.now pool.now out.old result.code result.total out.new }
 {
-    bundle_writer::write_2(key, rows, pool, out)
+    bundle_writer::write(Edition::Second, key, rows, pool, out).into()
 }
 
 // Two bundles compared by the reader of edition 2 (2026-13): the first's number, the second's, 25.

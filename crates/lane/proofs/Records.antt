@@ -18,10 +18,6 @@ pub busy_is : (l : Lane) → l.phase ≢ idle → sound_lane l ≡ (not (eqb l.o
 unfolding sound_lane everything all_zero
 busy_is l busy = rw (ne_eqb l.phase 0 busy)
 
--- with an owner and a direction it is sound as its order and its count are
-pub busy-ordered : (l : Lane) {t : Bool} → l.phase ≢ idle → l.owner ≢ 0 → l.direction ≤ 1 → is_order l.order ≡ t → sound_lane l ≡ (t && sound_count l.phase l.count)
-busy-ordered l busy owned way e = busy_is l busy ∙ (rw (ne_eqb l.owner 0 owned, le-leb l.direction 1 way, e))
-
 -- a busy record that is sound, as facts
 pub record Tidy (l : Lane) : Type 0 where
   pub owned : l.owner ≢ 0
@@ -102,20 +98,36 @@ sound-count l s =
     go (suc (suc (suc p))) e = absurd (false≢true e)
 
 -- below 8 is at most 7, as tests
-pub below-leb : (c m : ℕ) → ltb c (m + 1) ≡ leb c m
+below-leb : (c m : ℕ) → ltb c (m + 1) ≡ leb c m
 below-leb c m =
     elim (dec_le c m) [
       | yes h ↦ lt-ltb c (m + 1) (omega arith) ∙ sym (le-leb c m h)
       | no h ↦ le-ltb c (m + 1) (omega arith) ∙ sym (lt-leb c m (omega arith))
     ]
 
+-- a record whose phase is another than idle: sound as its owner, its direction and its order are, and then as its count is
+module _ (l : Lane) {t : Bool} (e : (not (eqb l.owner 0) && leb l.direction 1 && is_order l.order) ≡ t) where
+  pub running_is : running ≡ l.phase → sound_lane l ≡ (t && ltb l.count 8)
+  unfolding sound_count
+  running_is p =
+      busy_is l (λ z. eqb-false 1 0 refl (p ∙ z)) ∙ (rw (e, ← p)) ∙ ap (λ (c : Bool). t && c) (sym (below-leb l.count 7))
+
+  pub finished_is : finished ≡ l.phase → sound_lane l ≡ (t && eqb l.count 8)
+  unfolding sound_count
+  finished_is p = busy_is l (λ z. eqb-false 2 0 refl (p ∙ z)) ∙ (rw (e, ← p))
+
 -- a fourth phase is none
-pub no_phase : (p c : ℕ) → p ≢ running → p ≢ finished → sound_count p c ≡ false
+pub no_phase : (l : Lane) → finished < l.phase → sound_lane l ≡ false
 unfolding sound_count
-no_phase zero c n1 n2 = refl
-no_phase (suc zero) c n1 n2 = absurd (n1 refl)
-no_phase (suc (suc zero)) c n1 n2 = absurd (n2 refl)
-no_phase (suc (suc (suc p))) c n1 n2 = refl
+no_phase l h =
+    let three : Bool = not (eqb l.owner 0) && leb l.direction 1 && is_order l.order in
+    busy_is l (λ z. absurd (omega (arith, z))) ∙ ap (λ (t : Bool). three && t) (go l.phase h) ∙ and-false three
+  where
+    go : (p : ℕ) → finished < p → sound_count p l.count ≡ false
+    go zero k = absurd (omega arith)
+    go (suc zero) k = absurd (omega arith)
+    go (suc (suc zero)) k = absurd (omega arith)
+    go (suc (suc (suc p))) k = refl
 
 -- a sound lane with eight turns is finished
 pub eight-finished : (l : Lane) → sound_lane l ≡ true → l.count ≡ 8 → l.phase ≡ finished

@@ -1,181 +1,156 @@
 // The answer to one line: whether it is good, and what its letter asks for.
 #![tactic(auto)]
 
-ghost use Rattle.std.specs.Prelude.{◌≡◌, true, List, ◌++◌, ℕ, ◌+◌, ◌*◌, ◌%◌, ◌<◌, length, get_or};
-ghost use Rattle.published.specs.Bytes.{to_bytes};
-ghost use Rattle.text.specs.Hex.{value_of, all_hex, bytes_of, hex_of};
+ghost use Rattle.std.specs.Prelude.{◌≡◌, true, ◌+◌, ◌*◌, ◌<◌, length, SomeIff};
+ghost use Rattle.text.specs.Hex.{value_of, all_hex, bytes_of};
 ghost use Rattle.text.specs.Written.{written};
-ghost use Rattle.line_answers.specs.Line.{is_letter, is_good, key_text, block_text, words_text, response, bad_line, answer_of};
+ghost use Rattle.line_answers.specs.Line.{words_text, response, bad_line, answer_of};
+ghost use Rattle.line_answers.specs.Asked.{Names, code_of, Asks};
 
 use gift128::{decrypt_by_key, encrypt_by_key, one_round};
 use packing::{NUMBER, packing};
 use primitives::State;
-use text::{Text, empty, push, push_all, push_decimal, push_hex};
+use text::Text;
 
-// What a hex digit stands for, and 16 for any other byte.
-fn value(c: u8) -> u8
-    ensures { result ≡ value_of c }
+// What a hex digit stands for.
+fn digit(c: u8) -> Option<u8>
+    ensures { SomeIff result (value_of c < 16) (value_of c) }
 {
-    if c < b'0' {
-        return 16;
+    match c {
+        b'0'..=b'9' => Some(c - b'0'),
+        b'a'..=b'f' => Some(c - b'a' + 10),
+        _ => None,
     }
-    if c <= b'9' {
-        return c - b'0';
-    }
-    if c < b'a' {
-        return 16;
-    }
-    if c <= b'f' {
-        return c - b'a' + 10;
-    }
-    16
 }
 
-fn all_hex(text: &[u8]) -> bool
-    ensures { result ≡ all_hex text.now }
-{
-    let mut i = 0;
-    while i < text.len() {
-        if value(text[i]) > 15 {
-            return false;
-        }
-        i += 1;
-    }
-    true
-}
-
-fn byte_of(high: u8, low: u8) -> u8
-    requires { (value_of high < 16) × (value_of low < 16) }
-    ensures { result ≡ value_of high * 16 + value_of low }
-{
-    value(high) * 16 + value(low)
-}
-
-fn sixteen_bytes(text: &[u8]) -> [u8; 16]
-    requires { (length text.now ≡ 32) × (all_hex text.now ≡ true) }
-    ensures { result ≡ bytes_of text.now }
+// Two hex digits to a byte.
+fn sixteen_bytes(text: &[u8]) -> Option<[u8; 16]>
+    requires { length text.now ≡ 32 }
+    ensures { SomeIff result (all_hex text.now ≡ true) (bytes_of text.now) }
 {
     let mut out = [0; 16];
+    // Stays: tried `out.iter_mut().zip(text.chunks_exact(2))`, whose invariant cannot name `out`, so that the proof did not close.
     for i in 0..16 {
-        out[i] = byte_of(text[2 * i], text[2 * i + 1]);
+        out[i] = digit(text[2 * i])? * 16 + digit(text[2 * i + 1])?;
     }
-    out
+    Some(out)
 }
 
-fn low8(x: u32) -> u8
-    ensures { result ≡ x % 256 }
-{
-    (x % 256) as u8
+// What is asked of a key and a block.
+#[derive(Clone, Copy)]
+enum Letter {
+    Encrypt,
+    Decrypt,
+    OneRound,
+    Pack,
+    PlainEncrypt,
+    PlainDecrypt,
 }
 
-fn push_word(t: Text, w: u32) -> Text
-    ensures { (l : List ℕ) → t ≡ written l → result ≡ written (l ++ hex_of (to_bytes 4 w)) }
-{
-    let bytes = [low8(w >> 24), low8(w >> 16), low8(w >> 8), low8(w)];
-    push_hex(t, &bytes)
+// A byte that asks for nothing.
+#[derive(Drop)]
+struct NoLetter;
+
+impl TryFrom<u8> for Letter {
+    type Error = NoLetter;
+
+    ghost try_from_gives = { Names };
+
+    fn try_from(c: u8) -> Result<Letter, NoLetter> {
+        match c {
+            b'E' => Ok(Letter::Encrypt),
+            b'D' => Ok(Letter::Decrypt),
+            b'R' => Ok(Letter::OneRound),
+            b'P' => Ok(Letter::Pack),
+            b'F' => Ok(Letter::PlainEncrypt),
+            b'G' => Ok(Letter::PlainDecrypt),
+            _ => Err(NoLetter),
+        }
+    }
 }
 
 fn words_text(s: State) -> Text
     ensures { result ≡ written (words_text s.s0 s.s1 s.s2 s.s3) }
 {
-    let a = push(push_word(empty(), s.s0), b' ');
-    let b = push(push_word(a, s.s1), b' ');
-    let c = push(push_word(b, s.s2), b' ');
-    push_word(c, s.s3)
+    let mut t = Text::empty();
+    t.push_hex(&s.s0.to_be_bytes());
+    t.push(b' ');
+    t.push_hex(&s.s1.to_be_bytes());
+    t.push(b' ');
+    t.push_hex(&s.s2.to_be_bytes());
+    t.push(b' ');
+    t.push_hex(&s.s3.to_be_bytes());
+    t
 }
 
-fn is_letter(c: u8) -> bool
-    ensures { result ≡ is_letter c }
-{
-    if c == b'E' {
-        return true;
-    }
-    if c == b'D' {
-        return true;
-    }
-    if c == b'R' {
-        return true;
-    }
-    if c == b'P' {
-        return true;
-    }
-    if c == b'F' {
-        return true;
-    }
-    c == b'G'
+// A good line.
+#[derive(Clone, Copy)]
+struct Request {
+    letter: Letter,
+    key: [u8; 16],
+    block: [u8; 16],
 }
 
-fn is_good(line: &[u8]) -> bool
-    ensures { result ≡ is_good line.now }
-{
-    if line.len() != 67 {
-        return false;
+impl Request {
+    fn of_line(line: &[u8]) -> Option<Request>
+        ensures { Asks line.now result }
+    {
+        if line.len() != 67 || line[1] != b' ' || line[34] != b' ' {
+            return None;
+        }
+        let Ok(letter) = Letter::try_from(line[0]) else {
+            return None;
+        };
+        let key = sixteen_bytes(&line[2..34])?;
+        let block = sixteen_bytes(&line[35..67])?;
+        Some(Request { letter, key, block })
     }
-    if !is_letter(line[0]) {
-        return false;
-    }
-    if line[1] != b' ' {
-        return false;
-    }
-    if line[34] != b' ' {
-        return false;
-    }
-    if !all_hex(&line[2..34]) {
-        return false;
-    }
-    all_hex(&line[35..67])
-}
 
-// A good line's answer, by its letter; the block is worked on in place. F and G are by the plain engine.
-fn respond(letter: u8, key: &[u8], block: &mut [u8]) -> Text
-    requires { (length key.now ≡ 16) × (length block.old ≡ 16) }
-    ensures { result ≡ written (response letter key.now block.old) }
-{
-    if letter == b'E' {
-        encrypt_by_key(NUMBER, key, block);
-        return push_hex(empty(), block);
+    // The plain engine's letters are F and G. Lengths are right, so that no call refuses.
+    fn response(self) -> Text
+        ensures { result ≡ written (response (code_of self.letter) self.key self.block) }
+    {
+        let key = self.key;
+        let mut block = self.block;
+        match self.letter {
+            Letter::Encrypt => {
+                let _ = encrypt_by_key(NUMBER, &key, &mut block);
+            }
+            Letter::Decrypt => {
+                let _ = decrypt_by_key(NUMBER, &key, &mut block);
+            }
+            Letter::OneRound => {
+                let _ = one_round(&key, &mut block);
+            }
+            Letter::Pack => return words_text(packing(NUMBER, &block)),
+            Letter::PlainEncrypt => {
+                let _ = plain::encrypt_by_key(&key, &mut block);
+            }
+            Letter::PlainDecrypt => {
+                let _ = plain::decrypt_by_key(&key, &mut block);
+            }
+        }
+        let mut t = Text::empty();
+        t.push_hex(&block);
+        t
     }
-    if letter == b'D' {
-        decrypt_by_key(NUMBER, key, block);
-        return push_hex(empty(), block);
-    }
-    if letter == b'R' {
-        one_round(key, block);
-        return push_hex(empty(), block);
-    }
-    if letter == b'F' {
-        plain::encrypt_by_key(key, block);
-        return push_hex(empty(), block);
-    }
-    if letter == b'G' {
-        plain::decrypt_by_key(key, block);
-        return push_hex(empty(), block);
-    }
-    words_text(packing(NUMBER, block))
-}
-
-fn respond_to(line: &[u8]) -> Text
-    requires { is_good line.now ≡ true }
-    ensures { result ≡ written (response (get_or line.now 0 0) (bytes_of (key_text line.now)) (bytes_of (block_text line.now))) }
-{
-    let key = sixteen_bytes(&line[2..34]);
-    let mut block = sixteen_bytes(&line[35..67]);
-    respond(line[0], &key, &mut block)
 }
 
 fn bad_line(n: u64) -> Text
     ensures { result ≡ written (bad_line n) }
 {
-    push_decimal(push_all(empty(), b"bad line "), n)
+    let mut t = Text::empty();
+    t.push_all(b"bad line ");
+    t.push_decimal(n);
+    t
 }
 
 // The answer to a line, by its number, without the newline.
 pub fn answer(n: u64, line: &[u8]) -> Text
     ensures { result ≡ written (answer_of n line.now) }
 {
-    if is_good(line) {
-        respond_to(line)
-    } else {
-        bad_line(n)
+    match Request::of_line(line) {
+        Some(request) => request.response(),
+        None => bad_line(n),
     }
 }

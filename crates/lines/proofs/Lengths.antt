@@ -2,11 +2,11 @@
 use mathlib.Core.Path.{◌≡◌, refl, ap, ◌∙◌}
 use mathlib.Core.Bool.{Bool, true, false, cond}
 use mathlib.Core.List.{List, [], ◌∷◌}
-use Prim.Native.Nat.{ℕ, ◌+◌, ◌*◌, ◌^◌, ◌≤◌, ◌<◌}
+use Prim.Native.Nat.{ℕ, ◌+◌, ◌*◌, ◌^◌, ◌≤◌, ◌<◌, min}
 use native.Mathlib.Omega.{arith}
 use lib.Dec.{ltb, eqb}
 use lib.ListN.{length, length-append}
-use borrow.Author.Tests.{ltb-true}
+use borrow.Author.Tests.{ltb-true, ltb-false}
 use Rattle.published.specs.Bytes.{to_bytes}
 use Rattle.published.specs.Gift128.{encrypted, decrypted}
 use Rattle.published.proofs.Reading.{length_to_bytes}
@@ -50,6 +50,14 @@ answer_line_length n line h = omega (arith, length-append (answer_of n line) (10
 done-length : (n : ℕ) → n < 2 ^ 64 → length (done_line n) ≤ 26
 unfolding done_line
 done-length n h = omega (arith, length-append (decimal_of n) (10 ∷ []), number-length n h)
+
+pub next-saturated : (n m : ℕ) → n < 2 ^ 64 → m ≡ min (n + 1) 18446744073709551615 → m ≡ next_line n
+unfolding next_line
+next-saturated n m h e = go (ltb n 18446744073709551615) refl
+  where
+    go : (t : Bool) → ltb n 18446744073709551615 ≡ t → m ≡ cond t (n + 1) n
+    go true p = let less : n < 18446744073709551615 = ltb-true n 18446744073709551615 p in omega arith
+    go false p = let most : 18446744073709551615 ≤ n = ltb-false n 18446744073709551615 p in omega arith
 
 next_lt : (n : ℕ) → n < 2 ^ 64 → next_line n < 2 ^ 64
 unfolding next_line

@@ -1,9 +1,14 @@
 -- What the calls do with a reader: a line is kept up to 68 bytes, one more than a good line has, so that a full one is bad whatever it would go on with.
 use Rattle.std.specs.Prelude.{cond, List, [], ◌∷◌, ◌++◌, ℕ, ◌+◌, eqb, ltb, take, set, replicate}
-use Rattle.lines.specs.declared.Fed.{Fed}
 use Rattle.lines.specs.declared.Reader.{Reader}
 use Rattle.lines.specs.Input.{answer_line, first_line, done_line}
 use Rattle.text.specs.Written.{written, shown}
+use Rattle.text.specs.declared.Text.{Text}
+
+-- what a byte of input leads to: the reader after it, and a text
+pub record Fed : Type 0 where
+  pub reader : Reader
+  pub text : Text
 
 unfoldable pub fresh_reader : Reader
 fresh_reader = record { line = replicate 68 0; count = 0; lines = 0 }

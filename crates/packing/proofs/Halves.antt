@@ -1,11 +1,12 @@
--- A block and its two halves: halves read from its bytes, their bits gathered into words and scattered again, and halves, or pairs of words, put as bytes.
+-- A block and its two halves: their bits gathered into words and scattered again; and the bytes of a block, and of its words, as the library reads and writes them.
 use mathlib.Core.Path.{◌≡◌, sym, ap, ap₂, ◌∙◌}
 use mathlib.Core.List.{List, [], ◌∷◌, ◌++◌}
-use Prim.Native.Nat.{ℕ, ◌+◌, ◌*◌, ◌%◌, ◌^◌, ◌<◌}
-use native.Mathlib.Nat.{div-one, mod-eq_of_lt, mul-add-mod_self_right}
+use Prim.Native.Nat.{ℕ, ◌+◌, ◌*◌, ◌/◌, ◌%◌, ◌^◌, ◌<◌}
+use native.Mathlib.Nat.{div-one}
 use native.Mathlib.Omega.{arith}
 use lib.Dec.{T, ltb, lit<}
 use lib.ListN.{length}
+use Rattle.std.specs.Int.{w128, from_be_bytes, to_be_bytes}
 use Rattle.bits.specs.Digit.{digit, bit}
 use Rattle.bits.proofs.Digits.{number_cong, number-digit, digit_lt, digit_top, digit-below, digit-digit}
 use Rattle.bits.proofs.Bits.{bit-digit, bit_ext}
@@ -18,7 +19,7 @@ use Rattle.published.proofs.Words.{bit_word, word_lt}
 use Rattle.primitives.specs.declared.State.{State}
 use Rattle.primitives.specs.Packed.{word_of, block_of, state_of, Words}
 use Rattle.primitives.proofs.Blocks.{word_of_state_of, word_block_of}
-use Rattle.packing.specs.Inner.{half_at, copied, reordered, gathered_from, scattered_from, word_from, half_from}
+use Rattle.packing.specs.Inner.{reordered, gathered_from, scattered_from, word_from, half_from}
 use Rattle.packing.proofs.Steps.{reordered-lt, bit-reordered}
 
 -- half h of a block, the upper one being 1
@@ -60,30 +61,25 @@ scattered_half x h l =
 
 -- ---- bytes
 
-joined : (bs : List ℕ) → length bs ≡ 16 → from_bytes bs ≡ half_at bs 0 * 2 ^ 64 + half_at bs 8
+-- what the library reads from sixteen bytes and writes as such
+pub reads : (bs : List ℕ) → length bs ≡ 16 → from_be_bytes w128 bs ≡ from_bytes bs
 unfolding from_bytes
-joined = each 16 (λ bs. from_bytes bs ≡ half_at bs 0 * 2 ^ 64 + half_at bs 8) (λ _ _ _ _ _ _ _ _ _ _ _ _ _ _ _ _. omega arith)
+reads = each 16 (λ bs. from_be_bytes w128 bs ≡ from_bytes bs) (λ _ _ _ _ _ _ _ _ _ _ _ _ _ _ _ _. omega arith)
 
-pub reads : (bs : List ℕ) (high low : ℕ) → length bs ≡ 16 → high ≡ half_at bs 0 → low ≡ half_at bs 8 → high < 2 ^ 64 → low < 2 ^ 64
-    → (high ≡ half_of (from_bytes bs) 1) × (low ≡ half_of (from_bytes bs) 0)
+pub writes : (x : ℕ) → to_be_bytes w128 x ≡ to_bytes 16 x
+unfolding digit to_bytes
+writes x = rw div-one
+
+pub upper-half : (x : ℕ) → x < 2 ^ 128 → x / 2 ^ 64 ≡ half_of x 1
 unfolding digit
-reads bs high low len e f h l =
-    rw (joined bs len, sym e, sym f)
-    (sym (digit_top (2 ^ 64) (lit< tt) 1 high low h l), sym (ap (λ (x : ℕ). x % 2 ^ 64) (div-one (high * 2 ^ 64 + low)) ∙ mul-add-mod_self_right high (2 ^ 64) low ∙ mod-eq_of_lt l))
+upper-half x h = omega arith
 
-abbrev halves_put : ℕ → ℕ → List ℕ → List ℕ
-halves_put high low out = copied 8 (copied 8 out 0 (to_bytes 8 high)) 8 (to_bytes 8 low)
+pub lower-half : (x : ℕ) → x % 2 ^ 64 ≡ half_of x 0
+unfolding digit
+lower-half x = rw div-one
 
-pub puts : (x : ℕ) (out : List ℕ) → length out ≡ 16 → halves_put (half_of x 1) (half_of x 0) out ≡ to_bytes 16 x
-unfolding copied to_bytes
-puts x =
-    each 16 (λ out. halves_put (half_of x 1) (half_of x 0) out ≡ to_bytes 16 x)
-    (λ _ _ _ _ _ _ _ _ _ _ _ _ _ _ _ _. λ i.
-    d 1 7 tt i ∷ d 1 6 tt i ∷ d 1 5 tt i ∷ d 1 4 tt i ∷ d 1 3 tt i ∷ d 1 2 tt i ∷ d 1 1 tt i ∷ d 1 0 tt i
-    ∷ d 0 7 tt i ∷ d 0 6 tt i ∷ d 0 5 tt i ∷ d 0 4 tt i ∷ d 0 3 tt i ∷ d 0 2 tt i ∷ d 0 1 tt i ∷ d 0 0 tt i ∷ [])
-  where
-    d : (h m : ℕ) → T (ltb m 8) → digit 256 (half_of x h) m ≡ digit 256 x (8 * h + m)
-    d h m t = digit-digit 256 (lit< tt) 8 x h m (lit< t)
+pub halves : (x : ℕ) → x < 2 ^ 128 → half_of x 1 * 2 ^ 64 + half_of x 0 ≡ x
+halves x h = rw (sym (upper-half x h), sym (lower-half x)) (omega arith)
 
 -- two words side by side: the upper one and the lower
 module _ (a b : ℕ) (ha : a < 2 ^ 32) (hb : b < 2 ^ 32) where
@@ -94,17 +90,41 @@ module _ (a b : ℕ) (ha : a < 2 ^ 32) (hb : b < 2 ^ 32) where
   lower : (m : ℕ) → T (ltb m 4) → digit 256 (a * 2 ^ 32 + b) m ≡ digit 256 b m
   lower m t = digit-below 256 (lit< tt) 4 a b m (lit< t)
 
-pub puts-words : (s : State) → Words s → (out : List ℕ) → length out ≡ 16 → halves_put (s.s0 * 2 ^ 32 + s.s1) (s.s2 * 2 ^ 32 + s.s3) out ≡ write_words (block_of s)
-unfolding copied to_bytes write_words
-puts-words s h =
-    each 16 (λ out. halves_put (s.s0 * 2 ^ 32 + s.s1) (s.s2 * 2 ^ 32 + s.s3) out ≡ write_words (block_of s))
-    (λ _ _ _ _ _ _ _ _ _ _ _ _ _ _ _ _. (λ i.
+-- and two halves
+module _ (a b : ℕ) (ha : a < 2 ^ 64) (hb : b < 2 ^ 64) where
+  upper-eight : (m : ℕ) → T (ltb m 8) → digit 256 (a * 2 ^ 64 + b) (8 + m) ≡ digit 256 a m
+  upper-eight m t =
+      sym (digit-digit 256 (lit< tt) 8 (a * 2 ^ 64 + b) 1 m (lit< t)) ∙ ap (λ (w : ℕ). digit 256 w m) (digit_top (2 ^ 64) (lit< tt) 1 a b ha hb)
+
+  lower-eight : (m : ℕ) → T (ltb m 8) → digit 256 (a * 2 ^ 64 + b) m ≡ digit 256 b m
+  lower-eight m t = digit-below 256 (lit< tt) 8 a b m (lit< t)
+
+pub writes-words : (s : State) → Words s → to_be_bytes w128 ((s.s0 * 2 ^ 32 + s.s1) * 2 ^ 64 + (s.s2 * 2 ^ 32 + s.s3)) ≡ write_words (block_of s)
+unfolding to_bytes write_words
+writes-words s h =
+    writes ((s.s0 * 2 ^ 32 + s.s1) * 2 ^ 64 + (s.s2 * 2 ^ 32 + s.s3))
+    ∙ (λ i.
+    u 7 tt i ∷ u 6 tt i ∷ u 5 tt i ∷ u 4 tt i ∷ u 3 tt i ∷ u 2 tt i ∷ u 1 tt i ∷ u 0 tt i
+    ∷ l 7 tt i ∷ l 6 tt i ∷ l 5 tt i ∷ l 4 tt i ∷ l 3 tt i ∷ l 2 tt i ∷ l 1 tt i ∷ l 0 tt i ∷ [])
+    ∙ (λ i.
     u01 3 tt i ∷ u01 2 tt i ∷ u01 1 tt i ∷ u01 0 tt i ∷ l01 3 tt i ∷ l01 2 tt i ∷ l01 1 tt i ∷ l01 0 tt i
     ∷ u23 3 tt i ∷ u23 2 tt i ∷ u23 1 tt i ∷ u23 0 tt i ∷ l23 3 tt i ∷ l23 2 tt i ∷ l23 1 tt i ∷ l23 0 tt i ∷ [])
-    ∙ sym (λ i. to_bytes 4 (w 0 tt i) ++ to_bytes 4 (w 1 tt i) ++ to_bytes 4 (w 2 tt i) ++ to_bytes 4 (w 3 tt i)))
+    ∙ sym (λ i. to_bytes 4 (w 0 tt i) ++ to_bytes 4 (w 1 tt i) ++ to_bytes 4 (w 2 tt i) ++ to_bytes 4 (w 3 tt i))
   where
+    high : s.s0 * 2 ^ 32 + s.s1 < 2 ^ 64
+    high = omega (arith, h.0, h.1)
+
+    low : s.s2 * 2 ^ 32 + s.s3 < 2 ^ 64
+    low = omega (arith, h.2, h.3)
+
     w : (j : ℕ) → T (ltb j 4) → word 128 (block_of s) j ≡ word_of s j
     w j t = word_block_of s h j (lit< t)
+
+    u : (m : ℕ) → T (ltb m 8) → digit 256 ((s.s0 * 2 ^ 32 + s.s1) * 2 ^ 64 + (s.s2 * 2 ^ 32 + s.s3)) (8 + m) ≡ digit 256 (s.s0 * 2 ^ 32 + s.s1) m
+    u = upper-eight (s.s0 * 2 ^ 32 + s.s1) (s.s2 * 2 ^ 32 + s.s3) high low
+
+    l : (m : ℕ) → T (ltb m 8) → digit 256 ((s.s0 * 2 ^ 32 + s.s1) * 2 ^ 64 + (s.s2 * 2 ^ 32 + s.s3)) m ≡ digit 256 (s.s2 * 2 ^ 32 + s.s3) m
+    l = lower-eight (s.s0 * 2 ^ 32 + s.s1) (s.s2 * 2 ^ 32 + s.s3) high low
 
     u01 : (m : ℕ) → T (ltb m 4) → digit 256 (s.s0 * 2 ^ 32 + s.s1) (4 + m) ≡ digit 256 s.s0 m
     u01 = upper s.s0 s.s1 h.0 h.1

@@ -1,19 +1,35 @@
 -- What packing and unpacking answer for a block in an order, and for any other length or number; for a block, each is the other's inverse.
-use mathlib.Core.Path.{◌≡◌, ap, ◌∙◌}
+use mathlib.Core.Path.{◌≡◌, refl, ap, ◌∙◌}
 use mathlib.Core.Bool.{Bool, true, false, cond, ◌&&◌, and-false}
 use mathlib.Core.List.{List}
-use Prim.Native.Nat.{ℕ}
+use Prim.Native.Nat.{ℕ, ◌<◌}
 use lib.Dec.{eqb}
 use lib.ListN.{length}
-use borrow.Author.Tests.{eq-eqb, ne_eqb}
+use borrow.Author.Tests.{eq-eqb, ne_eqb, lt-leb}
 use Rattle.bits.proofs.Truth.{together}
 use Rattle.published.specs.Bytes.{Bytes}
 use Rattle.published.specs.Seen.{is_order, read_in, write_in}
 use Rattle.published.proofs.Seen.{orders}
 use Rattle.primitives.specs.declared.State.{State}
-use Rattle.primitives.specs.Packed.{block_of, state_of, Words}
-use Rattle.primitives.proofs.Blocks.{block_of_lt, block_of_state_of, state_of_block_of}
+use Rattle.primitives.specs.Packed as packed_words
+use Rattle.primitives.specs.Packed.{block_of, state_of}
+use Rattle.primitives.proofs.Blocks.{same_words, block_of_lt, block_of_state_of, state_of_block_of}
+use Rattle.packing.specs.declared.Order.{Order}
+use Rattle.packing.specs.declared.Order.TheVariants.{Number, Words}
+use Rattle.packing.specs.Orders.{order_number}
 use Rattle.packing.specs.Packing.{no_words, packed, unpacked}
+
+-- four zero words
+pub zeros : {s : State} → (s.s0 ≡ 0) × ((s.s1 ≡ 0) × ((s.s2 ≡ 0) × (s.s3 ≡ 0))) → s ≡ no_words
+zeros {s} e = same_words s no_words e.0 e.1.0 e.1.1.0 e.1.1.1
+
+-- an order's number is that of an order, and the number that names none is not
+pub is_order_number : (order : Order) → is_order (order_number order) ≡ true
+is_order_number Number = refl
+is_order_number Words = refl
+
+pub no_order : (n : ℕ) → 1 < n → is_order n ≡ false
+no_order n h = lt-leb n 1 h
 
 -- sixteen bytes in an order, bytes of another length, and bytes in none
 module _ (order : ℕ) (bs : List ℕ) where
@@ -62,7 +78,7 @@ module _ (order : ℕ) (o : is_order order ≡ true) where
       ∙ ap (write_in order) (block_of_state_of (read_in order bs) ((orders order).block bs len h))
       ∙ (orders order).again bs len h
 
-  pub packed-unpacked : (s : State) (out : List ℕ) → Words s → length out ≡ 16 → packed order (unpacked order s out) ≡ s
+  pub packed-unpacked : (s : State) (out : List ℕ) → packed_words.Words s → length out ≡ 16 → packed order (unpacked order s out) ≡ s
   packed-unpacked s out h len =
       ap (packed order) (unpacked-block order s out o len)
       ∙ packed-block order (write_in order (block_of s)) o ((orders order).sixteen (block_of s))

@@ -1,5 +1,5 @@
 -- A block of GIFT-64 is one half: its pieces, gathered, are its words; and what packing and unpacking answer for eight bytes and for any other length.
-use mathlib.Core.Path.{◌≡◌, refl, sym, ap, ◌∙◌}
+use mathlib.Core.Path.{◌≡◌, sym, ap, ◌∙◌}
 use mathlib.Core.Bool.{Bool, cond}
 use mathlib.Core.List.{List}
 use Prim.Native.Nat.{ℕ, ◌+◌, ◌*◌, ◌/◌, ◌%◌, ◌<◌}
@@ -8,6 +8,7 @@ use native.Mathlib.Omega.{arith}
 use lib.Dec.{lit<}
 use lib.ListN.{length}
 use borrow.Author.Tests.{eq-eqb, ne_eqb}
+use Rattle.std.specs.Int.{w64, from_be_bytes}
 use Rattle.bits.specs.Digit.{digit, bit}
 use Rattle.bits.proofs.Digits.{digit_lt, digit-number}
 use Rattle.bits.proofs.Bits.{bit-digit, bit_ext, bit_of_bits, of_bits_lt}
@@ -16,7 +17,7 @@ use Rattle.published.specs.Packing.{word}
 use Rattle.published.proofs.Listed.{each}
 use Rattle.primitives.specs.declared.State.{State}
 use Rattle.primitives.specs.Packed.{word_of, block_of64, state_of64}
-use Rattle.packing.specs.Inner.{half_at, copied, reordered, gathered_from, scattered_from, half_from}
+use Rattle.packing.specs.Inner.{reordered, gathered_from, scattered_from, half_from}
 use Rattle.packing.specs.Packing.{no_words, packed64, unpacked64}
 use Rattle.packing.proofs.Steps.{reordered-lt, bit-reordered}
 
@@ -50,15 +51,11 @@ scattered_words s =
         ∙ ap (λ (x : ℕ). bit x i) (digit-number 65536 (lit< tt) 4 (λ k. digit 65536 (word_of s k) 0) (λ k l. low k) j hj)
         ∙ bit-digit 16 (word_of s j) 0 i hi ∙ ap (bit (word_of s j)) (zero-add i)
 
--- ---- bytes
+-- ---- bytes, as the library reads them
 
-pub reads-eight : (bs : List ℕ) → length bs ≡ 8 → half_at bs 0 ≡ from_bytes bs
+pub reads-eight : (bs : List ℕ) → length bs ≡ 8 → from_be_bytes w64 bs ≡ from_bytes bs
 unfolding from_bytes
-reads-eight = each 8 (λ bs. half_at bs 0 ≡ from_bytes bs) (λ _ _ _ _ _ _ _ _. omega arith)
-
-pub puts-eight : (x : ℕ) (out : List ℕ) → length out ≡ 8 → copied 8 out 0 (to_bytes 8 x) ≡ to_bytes 8 x
-unfolding copied to_bytes
-puts-eight x = each 8 (λ out. copied 8 out 0 (to_bytes 8 x) ≡ to_bytes 8 x) (λ _ _ _ _ _ _ _ _. refl)
+reads-eight = each 8 (λ bs. from_be_bytes w64 bs ≡ from_bytes bs) (λ _ _ _ _ _ _ _ _. omega arith)
 
 -- ---- what the two answer
 

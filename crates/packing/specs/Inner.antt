@@ -1,7 +1,6 @@
 -- Inner: a block as two halves of 64 bits, and where the bits of a half go on their way to the words.
-use Rattle.std.specs.Prelude.{◌&&◌, List, [], ◌∷◌, ℕ, zero, suc, ◌+◌, ◌-◌, ◌*◌, ◌/◌, ◌%◌, ◌^◌, eqb, get_or, set}
+use Rattle.std.specs.Prelude.{◌&&◌, ℕ, ◌+◌, ◌-◌, ◌*◌, ◌/◌, ◌%◌, ◌^◌, eqb}
 use Rattle.bits.specs.Digit.{digit, bit, number, of_bits}
-use Rattle.published.specs.Bytes.{from_bytes}
 use Rattle.primitives.specs.declared.State.{State}
 use Rattle.primitives.specs.Packed.{word_of}
 
@@ -36,17 +35,3 @@ word_from high low j = digit 65536 high j * 65536 + digit 65536 low j
 
 abbrev pub half_from : State → ℕ → ℕ
 half_from s h = number 65536 4 (λ j. digit 65536 (word_of s j) h)
-
--- ---- halves and bytes
-
--- the number that four bytes at a place are, and the half that eight are
-abbrev pub four_at : List ℕ → ℕ → ℕ
-four_at bs at = from_bytes (get_or bs at 0 ∷ get_or bs (at + 1) 0 ∷ get_or bs (at + 2) 0 ∷ get_or bs (at + 3) 0 ∷ [])
-
-abbrev pub half_at : List ℕ → ℕ → ℕ
-half_at bs at = four_at bs at * 2 ^ 32 + four_at bs (at + 4)
-
--- the first n of some new bytes put at a place
-unfoldable pub copied : ℕ → List ℕ → ℕ → List ℕ → List ℕ
-copied zero bs at new = bs
-copied (suc n) bs at new = set (copied n bs at new) (at + n) (get_or new n 0)

@@ -3,15 +3,17 @@
 // word j is piece j of the upper half above piece j of the lower.
 #![tactic(auto)]
 
-ghost use Rattle.std.specs.Prelude.{◌≡◌, ◌+◌, ◌*◌, ◌^◌, ◌<◌, length};
+ghost use Rattle.std.specs.Prelude.{◌≡◌, ◌+◌, ◌*◌, ◌^◌, ◌<◌};
 ghost use Rattle.bits.specs.Digit.{digit};
 ghost use Rattle.published.specs.Bytes.{to_bytes};
 ghost use Rattle.published.specs.Seen.{is_order, read_in, write_in};
 ghost use Rattle.primitives.specs.Packed.{block_of, state_of};
 ghost use Rattle.packing.specs.Packing.{packed, unpacked, packed64, unpacked64};
-ghost use Rattle.packing.specs.Inner.{four_at, half_at, copied, reordered, crossed, rising, gathered_from, scattered_from, word_from, half_from};
+ghost use Rattle.packing.specs.Orders.{order_number, Names};
+ghost use Rattle.packing.specs.Inner.{reordered, crossed, rising, gathered_from, scattered_from, word_from, half_from};
 
-use primitives::{State, u32big};
+use answers::Refusal;
+use primitives::State;
 
 // The place of a bit in a half has six binary figures. This exchanges figures k and k + 2 of every place: the mask has the places where figure k is 1 and figure k + 2 is 0,
 // a bit there changes places with the one 3 * 2^k above it, and where the two figures are equal nothing moves.
@@ -73,54 +75,95 @@ fn half(s: State, h: u32) -> u64
     p3 * 0x1000000000000 + (p2 * 0x100000000 + (p1 * 0x10000 + p0))
 }
 
-// A half is eight of the block's bytes, the first the most significant.
-fn four_at(input: &[u8], at: usize) -> u32
-    requires { at + 3 < length input.now }
-    ensures { result ≡ four_at input.now at }
-{
-    u32big(input[at], input[at + 1], input[at + 2], input[at + 3])
-}
-
-fn half_at(input: &[u8], at: usize) -> u64
-    requires { at + 7 < length input.now }
-    ensures { result ≡ half_at input.now at }
-{
-    (four_at(input, at) as u64) * 0x100000000 + (four_at(input, at + 4) as u64)
-}
-
+// The eight bytes of a half, the first the most significant.
 pub fn bytes(x: u64) -> [u8; 8]
     ensures { result ≡ to_bytes 8 x }
 {
-    [
-        ((x >> 56) % 256) as u8,
-        ((x >> 48) % 256) as u8,
-        ((x >> 40) % 256) as u8,
-        ((x >> 32) % 256) as u8,
-        ((x >> 24) % 256) as u8,
-        ((x >> 16) % 256) as u8,
-        ((x >> 8) % 256) as u8,
-        (x % 256) as u8,
-    ]
+    x.to_be_bytes()
 }
 
-// A loop, because the compiler makes one store of it, as it does not of sixteen assignments.
-fn put(output: &mut [u8], at: usize, eight: [u8; 8])
-    requires { at + 7 < length output.old }
-    ensures { output.new ≡ copied 8 output.old at eight }
-{
-    for i in 0..8 {
-        output[at + i] = eight[i];
+// ---- the orders
+
+// How the bytes of a block are seen.
+#[derive(Clone, Copy, Debug, PartialEq, Eq)]
+pub enum Order {
+    // As one number, the most significant byte first.
+    Number,
+    // As the four words, the most significant byte first in each.
+    Words,
+}
+
+// The orders' numbers.
+pub const NUMBER: u32 = 0;
+
+pub const WORDS: u32 = 1;
+
+impl From<Order> for u32 {
+    ghost from_gives = { λ order n. n ≡ order_number order };
+
+    fn from(order: Order) -> u32 {
+        match order {
+            Order::Number => NUMBER,
+            Order::Words => WORDS,
+        }
     }
+}
+
+impl TryFrom<u32> for Order {
+    type Error = Refusal;
+
+    ghost try_from_gives = { Names };
+
+    fn try_from(number: u32) -> Result<Order, Refusal> {
+        match number {
+            NUMBER => Ok(Order::Number),
+            WORDS => Ok(Order::Words),
+            _ => Err(Refusal::BadOrder),
+        }
+    }
+}
+
+impl Order {
+    fn pack(self, block: &[u8; 16]) -> State
+        ensures { result ≡ state_of (read_in (order_number self) block.now) }
+    {
+        match self {
+            Order::Number => from_number(block),
+            Order::Words => from_words(block),
+        }
+    }
+
+    fn unpack(self, state: State) -> [u8; 16]
+        ensures { result ≡ write_in (order_number self) (block_of state) }
+    {
+        match self {
+            Order::Number => to_number(state),
+            Order::Words => to_words(state),
+        }
+    }
+}
+
+pub fn is_order(order: u32) -> bool
+    ensures { result ≡ is_order order }
+{
+    Order::try_from(order).is_ok()
+}
+
+// Two halves as one number, the upper one first.
+fn both(high: u64, low: u64) -> u128
+    ensures { result ≡ high * 2 ^ 64 + low }
+{
+    (high as u128) * 0x10000000000000000 + (low as u128)
 }
 
 // ---- order 0: the block is one number
 
-fn from_number(input: &[u8]) -> State
-    requires { length input.now ≡ 16 }
-    ensures { result ≡ state_of (read_in 0 input.now) }
+fn from_number(block: &[u8; 16]) -> State
+    ensures { result ≡ state_of (read_in 0 block.now) }
 {
-    let high = gather(half_at(input, 0));
-    let low = gather(half_at(input, 8));
+    let x = u128::from_be_bytes(*block);
+    let high = gather((x / 0x10000000000000000) as u64);
+    let low = gather((x % 0x10000000000000000) as u64);
     State {
         s0: word(high, low, 0),
         s1: word(high, low, 1),
@@ -129,25 +172,23 @@ fn from_number(input: &[u8]) -> State
     }
 }
 
-fn to_number(state: State, output: &mut [u8])
-    requires { length output.old ≡ 16 }
-    ensures { output.new ≡ write_in 0 (block_of state) }
+fn to_number(state: State) -> [u8; 16]
+    ensures { result ≡ write_in 0 (block_of state) }
 {
-    put(output, 0, bytes(scatter(half(state, 1))));
-    put(output, 8, bytes(scatter(half(state, 0))));
+    both(scatter(half(state, 1)), scatter(half(state, 0))).to_be_bytes()
 }
 
 // ---- order 1: the block is its four words, and no bit has to move
 
-fn from_words(input: &[u8]) -> State
-    requires { length input.now ≡ 16 }
-    ensures { result ≡ state_of (read_in 1 input.now) }
+fn from_words(block: &[u8; 16]) -> State
+    ensures { result ≡ state_of (read_in 1 block.now) }
 {
+    let (words, _) = block.as_chunks::<4>();
     State {
-        s0: four_at(input, 0),
-        s1: four_at(input, 4),
-        s2: four_at(input, 8),
-        s3: four_at(input, 12),
+        s0: u32::from_be_bytes(words[0]),
+        s1: u32::from_be_bytes(words[1]),
+        s2: u32::from_be_bytes(words[2]),
+        s3: u32::from_be_bytes(words[3]),
     }
 }
 
@@ -158,44 +199,21 @@ fn pair(high: u32, low: u32) -> u64
     (high as u64) * 0x100000000 + (low as u64)
 }
 
-fn to_words(state: State, output: &mut [u8])
-    requires { length output.old ≡ 16 }
-    ensures { output.new ≡ write_in 1 (block_of state) }
+fn to_words(state: State) -> [u8; 16]
+    ensures { result ≡ write_in 1 (block_of state) }
 {
-    put(output, 0, bytes(pair(state.s0, state.s1)));
-    put(output, 8, bytes(pair(state.s2, state.s3)));
+    both(pair(state.s0, state.s1), pair(state.s2, state.s3)).to_be_bytes()
 }
 
 // ---- either
-
-// The orders' numbers: the bytes are one number, or four words, the most significant byte first in both.
-pub const NUMBER: u32 = 0;
-
-pub const WORDS: u32 = 1;
-
-pub fn is_order(order: u32) -> bool
-    ensures { result ≡ is_order order }
-{
-    order <= WORDS
-}
 
 // Sixteen bytes are packed, as the order has them; of any other number of bytes, and in any other order, come four zero words.
 pub fn packing(order: u32, input: &[u8]) -> State
     ensures { result ≡ packed order input.now }
 {
-    if input.len() == 16 {
-        if order == NUMBER {
-            return from_number(input);
-        }
-        if order == WORDS {
-            return from_words(input);
-        }
-    }
-    State {
-        s0: 0,
-        s1: 0,
-        s2: 0,
-        s3: 0,
+    match (Order::try_from(order), input.as_array::<16>()) {
+        (Ok(order), Some(block)) => order.pack(block),
+        _ => State::default(),
     }
 }
 
@@ -203,13 +221,9 @@ pub fn packing(order: u32, input: &[u8]) -> State
 pub fn unpacking(order: u32, state: State, output: &mut [u8])
     ensures { output.new ≡ unpacked order state output.old }
 {
-    if output.len() == 16 {
-        if order == NUMBER {
-            to_number(state, output);
-            return;
-        }
-        if order == WORDS {
-            to_words(state, output);
+    if let Ok(order) = Order::try_from(order) {
+        if output.len() == 16 {
+            output.copy_from_slice(&order.unpack(state));
         }
     }
 }
@@ -219,22 +233,17 @@ pub fn unpacking(order: u32, state: State, output: &mut [u8])
 pub fn packing_words(input: &[u8]) -> State
     ensures { result ≡ packed 1 input.now }
 {
-    if input.len() != 16 {
-        return State {
-            s0: 0,
-            s1: 0,
-            s2: 0,
-            s3: 0,
-        };
+    match input.as_array() {
+        Some(block) => from_words(block),
+        None => State::default(),
     }
-    from_words(input)
 }
 
 pub fn unpacking_words(state: State, output: &mut [u8])
     ensures { output.new ≡ unpacked 1 state output.old }
 {
     if 16 == output.len() {
-        to_words(state, output);
+        output.copy_from_slice(&to_words(state));
     }
 }
 
@@ -244,21 +253,15 @@ pub fn unpacking_words(state: State, output: &mut [u8])
 pub fn packing_64(input: &[u8]) -> State
     ensures { result ≡ packed64 input.now }
 {
-    if input.len() == 8 {
-        let x = gather(half_at(input, 0));
-        State {
-            s0: piece(x, 0) as u32,
-            s1: piece(x, 1) as u32,
-            s2: piece(x, 2) as u32,
-            s3: piece(x, 3) as u32,
-        }
-    } else {
-        State {
-            s0: 0,
-            s1: 0,
-            s2: 0,
-            s3: 0,
-        }
+    let Some(block) = input.as_array() else {
+        return State::default();
+    };
+    let x = gather(u64::from_be_bytes(*block));
+    State {
+        s0: piece(x, 0) as u32,
+        s1: piece(x, 1) as u32,
+        s2: piece(x, 2) as u32,
+        s3: piece(x, 3) as u32,
     }
 }
 
@@ -267,6 +270,6 @@ pub fn unpacking_64(state: State, output: &mut [u8])
     ensures { output.new ≡ unpacked64 state output.old }
 {
     if output.len() == 8 {
-        put(output, 0, bytes(scatter(half(state, 0))));
+        output.copy_from_slice(&bytes(scatter(half(state, 0))));
     }
 }

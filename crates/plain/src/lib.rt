@@ -1,9 +1,10 @@
 // The plain engine: GIFT as documents 01 and 02 write it, to be read beside them. Nothing of the sliced engines is used.
-#![tactic(auto)]
+#![tactic(auto, unfolding(published::specs::Calls::block_code, published::specs::Calls::key_code, published::specs::Calls64::key_code64, published::specs::Gift128::encrypted, published::specs::Gift128::decrypted, published::specs::Gift128::pairs_of, published::specs::Gift64::encrypted64, published::specs::Gift64::decrypted64, published::specs::Gift64::pairs_of64))]
 
 mod steps;
 
 ghost use Rattle.std.specs.Prelude.{◌≡◌, true, false, ◌*◌, ◌%◌, ◌≤◌, length};
+ghost use Rattle.answers.specs.Refusals.{number};
 ghost use Rattle.published.specs.Bytes.{from_bytes, to_bytes};
 ghost use Rattle.published.specs.Rounds.{constant};
 ghost use Rattle.published.specs.Calls.{CiphersByKey};
@@ -11,8 +12,8 @@ ghost use Rattle.published.specs.Calls64.{CiphersByKey64};
 ghost use Rattle.plain_key.specs.Inner.{key_of, count_of};
 ghost use Rattle.plain.specs.Inner.{state_of, nibbles_of, Nibbles, rounds_from, unrounds_from, rounds_by};
 
-use answers::DONE;
-use plain_key::{SMALL, key_code, key_code_64, rounds_of, u_of, update_key, v_of, v_place};
+use answers::Refusal;
+use plain_key::{key_code, key_code_64, rounds_of, u_of, update_key, v_of, v_place};
 use steps::{round, step_constant, unround};
 
 // ---- the rounds
@@ -64,9 +65,9 @@ fn read_key(key: &[u8]) -> [u16; 8]
     requires { length key.now ≡ 16 }
     ensures { key_of result ≡ from_bytes key.now }
 {
-    let mut k = [0u16; 8];
+    let mut k = [0; 8];
     for i in 0..8 {
-        k[7 - i] = key[2 * i] as u16 * 256 + key[2 * i + 1] as u16;
+        k[7 - i] = u16::from_be_bytes([key[2 * i], key[2 * i + 1]]);
     }
     k
 }
@@ -93,12 +94,14 @@ fn write_block(s: &[u8], block: &mut [u8])
     }
 }
 
-// A block, by way of its nibbles, for which there is room.
-fn cross(s: &mut [u8], key: &[u8], block: &mut [u8], back: bool)
+// A block, by way of its nibbles.
+fn cross(key: &[u8], block: &mut [u8], back: bool)
     requires key_len { length key.now ≡ 16 }
-    requires s_len { (length s.old ≡ 2 * length block.old) × (length block.old % 2 ≡ 0) × (4 ≤ length block.old) × (length block.old ≤ 16) }
+    requires block_len { (length block.old % 2 ≡ 0) × (4 ≤ length block.old) × (length block.old ≤ 16) }
     ensures { block.new ≡ to_bytes (length block.old) (rounds_by back (2 * length block.old) (from_bytes key.now) (from_bytes block.old)) }
 {
+    let mut room = [0u8; 32];
+    let s = &mut room[..2 * block.len()];
     read_block(block, s);
     through(s, read_key(key), back);
     write_block(s, block);
@@ -106,52 +109,36 @@ fn cross(s: &mut [u8], key: &[u8], block: &mut [u8], back: bool)
 
 // ---- the calls: refusals 1, 2
 
-pub fn encrypt_by_key(key: &[u8], block: &mut [u8]) -> u32
-    ensures { CiphersByKey false key.now block.old result block.new }
+pub fn encrypt_by_key(key: &[u8], block: &mut [u8]) -> Result<(), Refusal>
+    ensures { CiphersByKey false key.now block.old (number result) block.new }
 {
-    let code = key_code(key.len(), block.len());
-    if code != DONE {
-        return code;
-    }
-    let mut s = [0u8; 32];
-    cross(&mut s, key, block, false);
-    code
+    key_code(key.len(), block.len())?;
+    cross(key, block, false);
+    Ok(())
 }
 
-pub fn decrypt_by_key(key: &[u8], block: &mut [u8]) -> u32
-    ensures { CiphersByKey true key.now block.old result block.new }
+pub fn decrypt_by_key(key: &[u8], block: &mut [u8]) -> Result<(), Refusal>
+    ensures { CiphersByKey true key.now block.old (number result) block.new }
 {
-    let code = key_code(key.len(), block.len());
-    if code != DONE {
-        return code;
-    }
-    let mut s = [0u8; 32];
-    cross(&mut s, key, block, true);
-    code
+    key_code(key.len(), block.len())?;
+    cross(key, block, true);
+    Ok(())
 }
 
 // ---- GIFT-64's, the same
 
-pub fn encrypt_64_by_key(key: &[u8], block: &mut [u8]) -> u32
-    ensures { CiphersByKey64 false key.now block.old result block.new }
+pub fn encrypt_64_by_key(key: &[u8], block: &mut [u8]) -> Result<(), Refusal>
+    ensures { CiphersByKey64 false key.now block.old (number result) block.new }
 {
-    let code = key_code_64(key.len(), block.len());
-    if code != DONE {
-        return code;
-    }
-    let mut s = [0u8; SMALL];
-    cross(&mut s, key, block, false);
-    code
+    key_code_64(key.len(), block.len())?;
+    cross(key, block, false);
+    Ok(())
 }
 
-pub fn decrypt_64_by_key(key: &[u8], block: &mut [u8]) -> u32
-    ensures { CiphersByKey64 true key.now block.old result block.new }
+pub fn decrypt_64_by_key(key: &[u8], block: &mut [u8]) -> Result<(), Refusal>
+    ensures { CiphersByKey64 true key.now block.old (number result) block.new }
 {
-    let code = key_code_64(key.len(), block.len());
-    if code != DONE {
-        return code;
-    }
-    let mut s = [0u8; SMALL];
-    cross(&mut s, key, block, true);
-    code
+    key_code_64(key.len(), block.len())?;
+    cross(key, block, true);
+    Ok(())
 }

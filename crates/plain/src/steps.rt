@@ -1,5 +1,5 @@
 // The steps of GIFT as document 01 numbers them, for either member: a state is lent as its nibbles, nibble i at place i, and their number says its width.
-ghost use Rattle.std.specs.Prelude.{◌≡◌, ℕ, ◌*◌, ◌≤◌, ◌<◌, length, get_or, take};
+ghost use Rattle.std.specs.Prelude.{◌≡◌, ℕ, ◌*◌, ◌≤◌, ◌<◌, length, get_or};
 ghost use Rattle.bits.specs.Digit.{one, bit};
 ghost use Rattle.published.specs.Rounds.{sub_cells, P, perm_bits, xored, key_bit, constant_bit, step, round, unround};
 ghost use Rattle.published.specs.Inner.{un_perm_bits};
@@ -14,8 +14,8 @@ fn sub_cells(s: &mut [u8], table: [u8; 16])
     requires { Nibbles s.old × ((x : ℕ) → x < 16 → get_or table x 0 < 16) }
     ensures { s.new ≡ by (sub_cells (λ x. get_or table x 0)) s.old }
 {
-    for i in 0..s.len() {
-        s[i] = table[s[i] as usize];
+    for x in s.iter_mut() {
+        *x = table[*x as usize];
     }
 }
 
@@ -37,17 +37,7 @@ fn perm_bits(s: &mut [u8])
     for i in 0..n {
         xor_bit(&mut moved, p(n, i), state_bit(s, i));
     }
-    copy(&moved, s);
-}
-
-// The first of `from`, as many as `to` has.
-fn copy(from: &[u8], to: &mut [u8])
-    requires { length to.old ≤ length from.now }
-    ensures { to.new ≡ take (length to.old) from.now }
-{
-    for i in 0..to.len() {
-        to[i] = from[i];
-    }
+    s.copy_from_slice(&moved[..s.len()]);
 }
 
 // 3. Bit i of U is xored into b(4i+j+1), and bit i of V into b(4i+j).
@@ -98,7 +88,7 @@ fn un_perm_bits(s: &mut [u8])
     for i in 0..n {
         xor_bit(&mut moved, i, state_bit(s, p(n, i)));
     }
-    copy(&moved, s);
+    s.copy_from_slice(&moved[..s.len()]);
 }
 
 // The last step first; 4 and 3 undo themselves.

@@ -1,13 +1,14 @@
 // The key's part of the plain engine: what the members differ in, the pairs that a round takes of a key state, its update, and the number that a call by a key gives.
-#![tactic(auto)]
+#![tactic(auto, unfolding(published::specs::Calls::block_code, published::specs::Calls::key_code, published::specs::Calls64::key_code64))]
 
 ghost use Rattle.std.specs.Prelude.{◌≡◌, ◌<◌};
+ghost use Rattle.answers.specs.Refusals.{number};
 ghost use Rattle.published.specs.Key.{ror16, update};
 ghost use Rattle.published.specs.Calls.{key_code};
 ghost use Rattle.published.specs.Calls64.{key_code64};
 ghost use Rattle.plain_key.specs.Inner.{key_of, count_of, place_of, uv_of};
 
-use answers::{BAD_BLOCK_LENGTH, BAD_KEY_LENGTH, DONE};
+use answers::Refusal;
 
 // ---- what the members differ in, by the number of nibbles: GIFT-64 has sixteen, GIFT-128 thirty-two
 
@@ -70,30 +71,30 @@ pub fn update_key(k: [u16; 8]) -> [u16; 8]
     ]
 }
 
-// ---- the number of a call: refusals 1, 2
+// ---- the refusals of a call: 1, 2
 
-pub fn key_code(key: usize, block: usize) -> u32
-    ensures { result ≡ key_code key block }
+pub fn key_code(key: usize, block: usize) -> Result<(), Refusal>
+    ensures { number result ≡ key_code key block }
 {
     if key != 16 {
-        return BAD_KEY_LENGTH;
+        return Err(Refusal::BadKeyLength);
     }
     if block != 16 {
-        return BAD_BLOCK_LENGTH;
+        return Err(Refusal::BadBlockLength);
     }
-    DONE
+    Ok(())
 }
 
 // ---- GIFT-64's, the same
 
-pub fn key_code_64(key: usize, block: usize) -> u32
-    ensures { result ≡ key_code64 key block }
+pub fn key_code_64(key: usize, block: usize) -> Result<(), Refusal>
+    ensures { number result ≡ key_code64 key block }
 {
     if key != 16 {
-        return BAD_KEY_LENGTH;
+        return Err(Refusal::BadKeyLength);
     }
     if block != 8 {
-        return BAD_BLOCK_LENGTH;
+        return Err(Refusal::BadBlockLength);
     }
-    DONE
+    Ok(())
 }

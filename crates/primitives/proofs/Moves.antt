@@ -6,7 +6,7 @@ use Prim.Native.Nat.{ℕ, ◌^◌, ◌<◌}
 use lib.Dec.{T}
 use Rattle.bits.specs.Digit.{bit}
 use Rattle.bits.proofs.Bits.{bit_of_bits, of_bits_bit, of_bits_cong, of_bits_lt}
-use Rattle.bits.proofs.Reflect.{W, var, lit, and, or, shr, shl, atom, value, sized, tells, by_test}
+use Rattle.bits.proofs.Reflect.{W, atom, value, sized, tells, by_test}
 use Rattle.primitives.specs.Words.{permuted}
 
 pub permuted-lt : (π : ℕ → ℕ) (x : ℕ) → permuted π x < 2 ^ 32
@@ -39,7 +39,3 @@ is_move π e = sized (32 ∷ []) 32 e && tells (32 ∷ []) 32 e 32 (λ i. atom 0
 pub moves : (π : ℕ → ℕ) (e : W) → T (is_move π e) → (x : ℕ) → x < 2 ^ 32 → value 32 (x ∷ []) e ≡ permuted π x
 unfolding permuted
 moves π e t x h = by_test (32 ∷ []) (x ∷ []) 32 (h, tt) e (λ i. atom 0 (π i)) t
-
--- the shape that the rotations inside groups share: ((x >> k) & m) | ((x & n) << l)
-abbrev pub grouped : ℕ → ℕ → ℕ → ℕ → W
-grouped k m n l = or (and (shr (var 0) k) (lit m)) (shl (and (var 0) (lit n)) l)

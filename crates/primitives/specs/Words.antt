@@ -1,5 +1,5 @@
 -- Words of 32 bits: bits that move within a word, and bits that change places.
-use Rattle.std.specs.Prelude.{cond, ◌&&◌, ℕ, ◌+◌, ◌-◌, ◌*◌, ◌/◌, ◌%◌, leb}
+use Rattle.std.specs.Prelude.{Bool, cond, ◌&&◌, ◌||◌, ℕ, ◌+◌, ◌-◌, ◌*◌, ◌/◌, ◌%◌, eqb, leb, ltb}
 use Rattle.bits.specs.Digit.{bit, of_bits, ◌⊕◌}
 
 -- the word whose bit i is bit π i of x
@@ -9,6 +9,10 @@ permuted π x = of_bits 32 (λ i. bit x (π i))
 -- each group of g bits rotated right by k: bit i comes from k places up, round the group's end
 abbrev pub ror_in : ℕ → ℕ → ℕ → ℕ
 ror_in g k i = i / g * g + (i + k) % g
+
+-- whether k is a rotation inside groups of g bits: nibbles, bytes or halves
+abbrev pub is_turn : ℕ → ℕ → Bool
+is_turn g k = (eqb g 4 || eqb g 8 || eqb g 16) && leb 1 k && ltb k g
 
 -- each bit i of b for which mask has one changes places with bit i + n of a: what b becomes, and what a becomes
 unfoldable pub swapped_low : ℕ → ℕ → ℕ → ℕ → ℕ

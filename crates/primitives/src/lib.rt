@@ -1,13 +1,13 @@
 // The bit part of primitives.rs: rotations inside words, halves, bytes and nibbles, swaps of bits, and the four words of a state.
 #![tactic(auto)]
 
-ghost use Rattle.std.specs.Prelude.{◌≡◌, ◌∷◌, [], ◌%◌, ◌<◌};
+ghost use Rattle.std.specs.Prelude.{◌≡◌, ◌∷◌, [], ◌%◌, IsTrue};
 ghost use Rattle.published.specs.Bytes.{from_bytes};
-ghost use Rattle.primitives.specs.Words.{permuted, ror_in, swapped_low, swapped_high, swapped_single};
+ghost use Rattle.primitives.specs.Words.{permuted, ror_in, is_turn, swapped_low, swapped_high, swapped_single};
 
 // The four words of a state.
 #[repr(C)]
-#[derive(Clone, Copy)]
+#[derive(Clone, Copy, Debug, PartialEq, Eq, Default)]
 pub struct State {
     pub s0: u32,
     pub s1: u32,
@@ -19,72 +19,80 @@ pub struct State {
 pub fn u32big(x0: u8, x1: u8, x2: u8, x3: u8) -> u32
     ensures { result ≡ from_bytes (x0 ∷ x1 ∷ x2 ∷ x3 ∷ []) }
 {
-    ((x0 as u32) << 24) | ((x1 as u32) << 16) | ((x2 as u32) << 8) | (x3 as u32)
+    u32::from_be_bytes([x0, x1, x2, x3])
 }
 
-// Rotated right by any number of places: by 0 must not become a shift by 32.
+// Rotated right by any number of places.
 pub fn ror(x: u32, y: u32) -> u32
     ensures { result ≡ permuted (ror_in 32 (y % 32)) x }
 {
-    let n = y % 32;
-    if n == 0 {
-        return x;
-    }
-    (x >> n) | (x << (32 - n))
+    x.rotate_right(y)
+}
+
+// Each group of so many bits rotated right by k: the bits that stay in their group come down, and those that leave it below come in at its top.
+fn ror_within(group: u32, k: u32, x: u32) -> u32
+    requires { IsTrue (is_turn group k) }
+    ensures { result ≡ permuted (ror_in group k) x }
+{
+    // the lowest bit of each group
+    let ones = 0xffffffff / ((1 << group) - 1);
+    let stay = ones * ((1 << (group - k)) - 1);
+    let leave = ones * ((1 << k) - 1);
+    ((x >> k) & stay) | ((x & leave) << (group - k))
 }
 
 pub fn byte_ror_2(x: u32) -> u32
     ensures { result ≡ permuted (ror_in 8 2) x }
 {
-    ((x >> 2) & 0x3f3f3f3f) | ((x & 0x03030303) << 6)
+    ror_within(8, 2, x)
 }
 
 pub fn byte_ror_4(x: u32) -> u32
     ensures { result ≡ permuted (ror_in 8 4) x }
 {
-    ((x >> 4) & 0x0f0f0f0f) | ((x & 0x0f0f0f0f) << 4)
+    ror_within(8, 4, x)
 }
 
 pub fn byte_ror_6(x: u32) -> u32
     ensures { result ≡ permuted (ror_in 8 6) x }
 {
-    ((x >> 6) & 0x03030303) | ((x & 0x3f3f3f3f) << 2)
+    ror_within(8, 6, x)
 }
 
 pub fn half_ror_4(x: u32) -> u32
     ensures { result ≡ permuted (ror_in 16 4) x }
 {
-    ((x >> 4) & 0x0fff0fff) | ((x & 0x000f000f) << 12)
+    ror_within(16, 4, x)
 }
 
 pub fn half_ror_8(x: u32) -> u32
     ensures { result ≡ permuted (ror_in 16 8) x }
 {
-    ((x >> 8) & 0x00ff00ff) | ((x & 0x00ff00ff) << 8)
+    ror_within(16, 8, x)
 }
 
 pub fn half_ror_12(x: u32) -> u32
     ensures { result ≡ permuted (ror_in 16 12) x }
 {
-    ((x >> 12) & 0x000f000f) | ((x & 0x0fff0fff) << 4)
+    ror_within(16, 12, x)
 }
 
 pub fn nibble_ror_1(x: u32) -> u32
     ensures { result ≡ permuted (ror_in 4 1) x }
 {
-    ((x >> 1) & 0x77777777) | ((x & 0x11111111) << 3)
+    ror_within(4, 1, x)
 }
 
 pub fn nibble_ror_2(x: u32) -> u32
     ensures { result ≡ permuted (ror_in 4 2) x }
 {
-    ((x >> 2) & 0x33333333) | ((x & 0x33333333) << 2)
+    ror_within(4, 2, x)
 }
 
 pub fn nibble_ror_3(x: u32) -> u32
     ensures { result ≡ permuted (ror_in 4 3) x }
 {
-    ((x >> 3) & 0x11111111) | ((x & 0x77777777) << 1)
+    ror_within(4, 3, x)
 }
 
 // The two words of a swap.

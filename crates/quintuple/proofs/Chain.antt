@@ -40,27 +40,27 @@ words_of x = (word_lt x 0, word_lt x 1, word_lt x 2, word_lt x 3)
 -- ---- what the code makes, step by step, is the chain
 
 module _ (p : Part) (s : State) where
-  pub made : (a x b y d z e w f r : State) → a ≡ subround 0 s p.v0 p.u0 p.c0 → x ≡ exchanged_of a → b ≡ subround 1 x p.v1 p.u1 p.c1 → y ≡ exchanged_of b
-      → d ≡ subround 2 y p.v2 p.u2 p.c2 → z ≡ exchanged_of d → e ≡ subround 3 z p.v3 p.u3 p.c3 → w ≡ exchanged_of e → f ≡ subround 4 w p.v4 p.u4 p.c4 → r ≡ exchanged_of f
+  pub made : (a x b y d z e w f r : State) → a ≡ subround 0 s p.k0.v p.k0.u p.k0.c → x ≡ exchanged_of a → b ≡ subround 1 x p.k1.v p.k1.u p.k1.c → y ≡ exchanged_of b
+      → d ≡ subround 2 y p.k2.v p.k2.u p.k2.c → z ≡ exchanged_of d → e ≡ subround 3 z p.k3.v p.k3.u p.k3.c → w ≡ exchanged_of e → f ≡ subround 4 w p.k4.v p.k4.u p.k4.c → r ≡ exchanged_of f
       → r ≡ five_of p s
   unfolding five_of
   made a x b y d z e w f r g0 h0 g1 h1 g2 h2 g3 h3 g4 h4 =
-      h4 ∙ ap exchanged_of (g4 ∙ ap (λ (t : State). subround 4 t p.v4 p.u4 p.c4)
-      (h3 ∙ ap exchanged_of (g3 ∙ ap (λ (t : State). subround 3 t p.v3 p.u3 p.c3)
-      (h2 ∙ ap exchanged_of (g2 ∙ ap (λ (t : State). subround 2 t p.v2 p.u2 p.c2)
-      (h1 ∙ ap exchanged_of (g1 ∙ ap (λ (t : State). subround 1 t p.v1 p.u1 p.c1)
+      h4 ∙ ap exchanged_of (g4 ∙ ap (λ (t : State). subround 4 t p.k4.v p.k4.u p.k4.c)
+      (h3 ∙ ap exchanged_of (g3 ∙ ap (λ (t : State). subround 3 t p.k3.v p.k3.u p.k3.c)
+      (h2 ∙ ap exchanged_of (g2 ∙ ap (λ (t : State). subround 2 t p.k2.v p.k2.u p.k2.c)
+      (h1 ∙ ap exchanged_of (g1 ∙ ap (λ (t : State). subround 1 t p.k1.v p.k1.u p.k1.c)
       (h0 ∙ ap exchanged_of g0))))))))
 
-  pub unmade : (a x b y d z e w f r : State) → a ≡ exchanged_of s → x ≡ unsubround 4 a p.v4 p.u4 p.c4 → b ≡ exchanged_of x → y ≡ unsubround 3 b p.v3 p.u3 p.c3
-      → d ≡ exchanged_of y → z ≡ unsubround 2 d p.v2 p.u2 p.c2 → e ≡ exchanged_of z → w ≡ unsubround 1 e p.v1 p.u1 p.c1 → f ≡ exchanged_of w → r ≡ unsubround 0 f p.v0 p.u0 p.c0
+  pub unmade : (a x b y d z e w f r : State) → a ≡ exchanged_of s → x ≡ unsubround 4 a p.k4.v p.k4.u p.k4.c → b ≡ exchanged_of x → y ≡ unsubround 3 b p.k3.v p.k3.u p.k3.c
+      → d ≡ exchanged_of y → z ≡ unsubround 2 d p.k2.v p.k2.u p.k2.c → e ≡ exchanged_of z → w ≡ unsubround 1 e p.k1.v p.k1.u p.k1.c → f ≡ exchanged_of w → r ≡ unsubround 0 f p.k0.v p.k0.u p.k0.c
       → r ≡ unfive_of p s
   unfolding unfive_of
   unmade a x b y d z e w f r h4 g4 h3 g3 h2 g2 h1 g1 h0 g0 =
-      g0 ∙ ap (λ (t : State). unsubround 0 t p.v0 p.u0 p.c0) (h0 ∙ ap exchanged_of
-      (g1 ∙ ap (λ (t : State). unsubround 1 t p.v1 p.u1 p.c1) (h1 ∙ ap exchanged_of
-      (g2 ∙ ap (λ (t : State). unsubround 2 t p.v2 p.u2 p.c2) (h2 ∙ ap exchanged_of
-      (g3 ∙ ap (λ (t : State). unsubround 3 t p.v3 p.u3 p.c3) (h3 ∙ ap exchanged_of
-      (g4 ∙ ap (λ (t : State). unsubround 4 t p.v4 p.u4 p.c4) h4))))))))
+      g0 ∙ ap (λ (t : State). unsubround 0 t p.k0.v p.k0.u p.k0.c) (h0 ∙ ap exchanged_of
+      (g1 ∙ ap (λ (t : State). unsubround 1 t p.k1.v p.k1.u p.k1.c) (h1 ∙ ap exchanged_of
+      (g2 ∙ ap (λ (t : State). unsubround 2 t p.k2.v p.k2.u p.k2.c) (h2 ∙ ap exchanged_of
+      (g3 ∙ ap (λ (t : State). unsubround 3 t p.k3.v p.k3.u p.k3.c) (h3 ∙ ap exchanged_of
+      (g4 ∙ ap (λ (t : State). unsubround 4 t p.k4.v p.k4.u p.k4.c) h4))))))))
 
 -- ---- the chains
 

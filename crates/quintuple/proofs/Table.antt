@@ -22,20 +22,9 @@ at_round r h = agree 40 (λ k. get_or (ruled 40 0) k 0) (λ k. constant_word (k 
 
 -- the five entries from round n on
 pub five_from : (i n : ℕ) → i ≡ n → n + 4 < 40
-    → record {
-      c0 = get_or (ruled 40 0) n 0;
-      c1 = get_or (ruled 40 0) (n + 1) 0;
-      c2 = get_or (ruled 40 0) (n + 2) 0;
-      c3 = get_or (ruled 40 0) (n + 3) 0;
-      c4 = get_or (ruled 40 0) (n + 4) 0;
-    } ≡ constants_of i
+    → get_or (ruled 40 0) n 0 ∷ get_or (ruled 40 0) (n + 1) 0 ∷ get_or (ruled 40 0) (n + 2) 0 ∷ get_or (ruled 40 0) (n + 3) 0 ∷ get_or (ruled 40 0) (n + 4) 0 ∷ []
+    ≡ constants_of i
 five_from i n e h =
     (λ j.
-    record {
-      c0 = at_round n (omega (arith, h)) j;
-      c1 = at_round (n + 1) (omega (arith, h)) j;
-      c2 = at_round (n + 2) (omega (arith, h)) j;
-      c3 = at_round (n + 3) (omega (arith, h)) j;
-      c4 = at_round (n + 4) h j;
-    })
+    at_round n (omega (arith, h)) j ∷ at_round (n + 1) (omega (arith, h)) j ∷ at_round (n + 2) (omega (arith, h)) j ∷ at_round (n + 3) (omega (arith, h)) j ∷ at_round (n + 4) h j ∷ [])
     ∙ ap constants_of (sym e)

@@ -9,7 +9,6 @@ use crate::text::{
 use bench::{Answer, Bench, LANES};
 use gift128::Gift128;
 use lane::Lane;
-use primitives::State;
 
 // ---- records
 
@@ -26,8 +25,7 @@ fn eighty(from: &[u32]) -> [u32; 80] {
 
 fn words_of(k: Part) -> [u32; 80] {
     let key = k.bytes;
-    let made = Gift128::new(front(&key, k.n));
-    let cipher = made.cipher;
+    let cipher = Gift128::new(front(&key, k.n)).unwrap_or_default();
     cipher.k
 }
 
@@ -80,29 +78,6 @@ pub(crate) fn same_eighty(a: [u32; 80], b: [u32; 80]) -> bool {
     same_words(&a, &b)
 }
 
-fn same_state(s: State, t: State) -> bool {
-    (s.s0 == t.s0) & (s.s1 == t.s1) & (s.s2 == t.s2) & (s.s3 == t.s3)
-}
-
-fn same_lane(a: Lane, b: Lane) -> bool {
-    let v = a.words;
-    let w = b.words;
-    let head = (a.phase == b.phase)
-        & (a.direction == b.direction)
-        & (a.owner == b.owner)
-        & (a.count == b.count)
-        & (a.order == b.order);
-    head & same_eighty(v, w) & same_state(a.state, b.state)
-}
-
-fn same_lanes(a: [Lane; LANES], b: [Lane; LANES]) -> bool {
-    let mut same = true;
-    for i in 0..LANES {
-        same = same_lane(a[i], b[i]) & same;
-    }
-    same
-}
-
 // ---- calls
 
 fn opened(b: Bench, lane: u32, line: &[u8]) -> Answer {
@@ -124,11 +99,7 @@ fn opened(b: Bench, lane: u32, line: &[u8]) -> Answer {
 
 fn fresh() -> Answer {
     let bench = bench::fresh();
-    Answer {
-        code: 0,
-        made: 0,
-        bench,
-    }
+    Answer { made: Ok(0), bench }
 }
 
 fn called(call: u32, b: Bench, lane: u32, line: &[u8]) -> Answer {
@@ -144,11 +115,10 @@ fn says_all(line: &[u8], code: u32, made: u32, last: u32) -> bool {
     says_number(line, code) & says_one(line, b"made", made) & says_one(line, b"last", last)
 }
 
-fn answers(a: Answer, wanted: Bench, line: &[u8]) -> bool {
+fn agrees(a: Answer, wanted: Bench, line: &[u8]) -> bool {
     let bench = a.bench;
-    let lanes = bench.lanes;
-    let others = wanted.lanes;
-    says_all(line, a.code, a.made, bench.last) & same_lanes(lanes, others)
+    let code = answers::number(a.made);
+    says_all(line, code, a.made.unwrap_or(0), bench.last) & (bench.lanes == wanted.lanes)
 }
 
 fn taken(b: Bench, lane: u32, wanted: Bench, line: &[u8]) -> bool {
@@ -156,7 +126,7 @@ fn taken(b: Bench, lane: u32, wanted: Bench, line: &[u8]) -> bool {
     let mut buffer = z.bytes;
     let n = z.n % BYTES;
     let a = bench::take(b, lane, owner(line), &mut buffer[..n]);
-    left(line, front(&buffer, n)) & answers(a, wanted, line)
+    left(line, front(&buffer, n)) & agrees(a, wanted, line)
 }
 
 // Whether the call gives what the line says, and leaves the bench that is wanted.
@@ -165,5 +135,5 @@ pub(crate) fn right(call: u32, b: Bench, wanted: Bench, line: &[u8]) -> bool {
     if call == 0x34 {
         return taken(b, lane, wanted, line);
     }
-    answers(called(call, b, lane, line), wanted, line)
+    agrees(called(call, b, lane, line), wanted, line)
 }

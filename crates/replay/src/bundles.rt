@@ -2,7 +2,7 @@
 use crate::text::{
     BYTES, field, front, front_words, key, left, lent, number, says_number, says_one,
 };
-use bundle_format::{Asked, Opened, Told, Written};
+use bundle_format::{Asked, Edition, Opened, Told, Written};
 
 // ---- what a line says of an answer
 
@@ -14,6 +14,16 @@ fn says_told(line: &[u8], t: Told) -> bool {
         & says_one(line, b"len", t.len)
 }
 
+// ---- editions: the first, or else the second
+
+fn edition(line: &[u8], name: &[u8]) -> Edition {
+    if number(line, name) == 1 {
+        Edition::First
+    } else {
+        Edition::Second
+    }
+}
+
 // ---- reading
 
 fn asked(line: &[u8]) -> Asked {
@@ -22,10 +32,13 @@ fn asked(line: &[u8]) -> Asked {
     let key = k.bytes;
     let bundle = b.bytes;
     let id = number(line, b"id");
-    if number(line, b"reader") == 1 {
-        return bundle_reader::ask_1(front(&key, k.n), front(&bundle, b.n), id);
-    }
-    bundle_reader::ask_2(front(&key, k.n), front(&bundle, b.n), id)
+    bundle_reader::ask(
+        edition(line, b"reader"),
+        front(&key, k.n),
+        front(&bundle, b.n),
+        id,
+    )
+    .into()
 }
 
 fn opened(line: &[u8]) -> Opened {
@@ -33,10 +46,11 @@ fn opened(line: &[u8]) -> Opened {
     let b = field(line, b"bundle");
     let key = k.bytes;
     let bundle = b.bytes;
-    if number(line, b"reader") == 1 {
-        return bundle_reader::open_1(front(&key, k.n), front(&bundle, b.n));
-    }
-    bundle_reader::open_2(front(&key, k.n), front(&bundle, b.n))
+    bundle_reader::open(
+        edition(line, b"reader"),
+        front(&key, k.n),
+        front(&bundle, b.n),
+    )
 }
 
 // What was seen of the bundle is told by its four numbers.
@@ -78,20 +92,14 @@ fn written(line: &[u8], out: &mut [u8]) -> Written {
     let key = k.bytes;
     let rows = r.words;
     let pool = p.bytes;
-    if number(line, b"edition") == 1 {
-        return bundle_writer::write_1(
-            front(&key, k.n),
-            front_words(&rows, r.m),
-            front(&pool, p.n),
-            out,
-        );
-    }
-    bundle_writer::write_2(
+    bundle_writer::write(
+        edition(line, b"edition"),
         front(&key, k.n),
         front_words(&rows, r.m),
         front(&pool, p.n),
         out,
     )
+    .into()
 }
 
 fn right_written(line: &[u8]) -> bool {

@@ -4,10 +4,10 @@ use crate::text::{BYTES, field, front, key, left, says_number};
 
 fn by_key(call: u32, key: &[u8], input: &[u8], lent: &mut [u8]) -> u32 {
     match call {
-        0x81 => gift64::encrypt_by_key(key, lent),
-        0x82 => gift64::decrypt_by_key(key, lent),
-        0x83 => gift64::encrypt_blocks(key, input, lent),
-        _ => gift64::decrypt_blocks(key, input, lent),
+        0x81 => answers::number(gift64::encrypt_by_key(key, lent)),
+        0x82 => answers::number(gift64::decrypt_by_key(key, lent)),
+        0x83 => answers::number(gift64::encrypt_blocks(key, input, lent)),
+        _ => answers::number(gift64::decrypt_blocks(key, input, lent)),
     }
 }
 

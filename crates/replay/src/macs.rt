@@ -5,7 +5,7 @@ use crate::benches::{same_eighty, words_told};
 use crate::text::{
     BYTES, field, four, front, key, left, lent, number, says_bytes, says_number, says_one, sixteen,
 };
-use cmac::Mac;
+use cmac::{Fed, Mac, Started};
 
 // ---- states
 
@@ -36,7 +36,7 @@ fn whole(line: &[u8], out: &mut [u8]) -> u32 {
     let m = field(line, b"message");
     let key = k.bytes;
     let message = m.bytes;
-    cmac::whole(front(&key, k.n), front(&message, m.n), out)
+    answers::number(cmac::whole(front(&key, k.n), front(&message, m.n), out))
 }
 
 fn yes(said: bool) -> u32 {
@@ -54,13 +54,13 @@ fn checked(line: &[u8]) -> bool {
     let message = m.bytes;
     let tag = t.bytes;
     let c = cmac::check(front(&key, k.n), front(&message, m.n), front(&tag, t.n));
-    says_number(line, c.code) & says_one(line, b"yes", yes(c.yes))
+    says_number(line, answers::number(c)) & says_one(line, b"yes", yes(c.unwrap_or(false)))
 }
 
 fn started(line: &[u8]) -> bool {
     let k = key(line);
     let key = k.bytes;
-    let s = cmac::start(front(&key, k.n));
+    let s = Started::from(cmac::start(front(&key, k.n)));
     says_number(line, s.code)
         & says_state(
             line,
@@ -75,7 +75,7 @@ fn fed(line: &[u8]) -> bool {
     let words = s.words;
     let p = field(line, b"piece");
     let piece = p.bytes;
-    let f = cmac::piece(s, front(&piece, p.n));
+    let f = Fed::new(s, cmac::piece(s, front(&piece, p.n)));
     says_number(line, f.code) & says_state(line, f.state, words)
 }
 
@@ -92,7 +92,7 @@ fn tag(call: u32, line: &[u8], out: &mut [u8]) -> u32 {
     if call == 0x61 {
         return whole(line, out);
     }
-    cmac::tag(state(line), out)
+    answers::number(cmac::tag(state(line), out))
 }
 
 pub(crate) fn right(call: u32, line: &[u8]) -> bool {

@@ -6,7 +6,7 @@ use crate::text::{
     BYTES, field, four, front, key, left, lent, number, says_bytes, says_number, says_one, sixteen,
     twelve,
 };
-use counter::Stream;
+use counter::{Started, Stream};
 
 fn stream(line: &[u8]) -> Stream {
     let words = words_told(line, b"key", b"words");
@@ -39,11 +39,11 @@ fn started(line: &[u8]) -> bool {
     let o = field(line, b"nonce");
     let key = k.bytes;
     let nonce = o.bytes;
-    let s = counter::start(
+    let s = Started::from(counter::start(
         front(&key, k.n),
         front(&nonce, o.n),
         number(line, b"counter"),
-    );
+    ));
     says_number(line, s.code) & says_stream(line, s.stream)
 }
 
@@ -53,8 +53,9 @@ fn fed(line: &[u8]) -> bool {
     let n = z.n % BYTES;
     let i = field(line, b"input");
     let input = i.bytes;
-    let f = counter::piece(stream(line), front(&input, i.n), &mut buffer[..n]);
-    left(line, front(&buffer, n)) & says_number(line, f.code) & says_stream(line, f.stream)
+    let mut s = stream(line);
+    let code = answers::number(s.feed(front(&input, i.n), &mut buffer[..n]));
+    left(line, front(&buffer, n)) & says_number(line, code) & says_stream(line, s)
 }
 
 pub(crate) fn right(call: u32, line: &[u8]) -> bool {

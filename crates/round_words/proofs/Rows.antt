@@ -1,6 +1,6 @@
 -- Pairs in a row: each as the other, and both maps place by place.
 use mathlib.Core.Path.{◌≡◌, refl, sym, ap, ap₂, ◌∙◌}
-use mathlib.Core.Bool.{Bool, true, false}
+use mathlib.Core.Bool.{Bool, true, false, cond}
 use mathlib.Core.List.{List, [], ◌∷◌}
 use Prim.Native.Nat.{ℕ, zero, suc, ◌+◌, ◌*◌, ◌/◌, ◌%◌, ◌<◌}
 use native.Mathlib.Omega.{arith}
@@ -8,6 +8,7 @@ use lib.Dec.{eqb}
 use lib.ListN.{length, get_or}
 use borrow.Author.Tests.{eqb-true}
 use Rattle.answers.specs.Numbers.{DONE, BAD_OUTPUT_LENGTH, BAD_WORD_COUNT}
+use Rattle.answers.specs.Order.{if_done}
 use Rattle.answers.proofs.Passed.{passed}
 use Rattle.published.specs.Rounds.{Pair}
 use Rattle.round_words.specs.Arranged.{arranged, stands, words_from, pairs_from, in_row, of_row}
@@ -134,3 +135,12 @@ row-passed given out e =
     let p2 = passed (eqb out given) BAD_OUTPUT_LENGTH DONE refl p1.1 in
     let all : given ≡ 80 = eqb-true given 80 p1.0 in
     (all, eqb-true out given p2.0 ∙ all)
+
+-- what is left is what is meant, if it is so of eighty numbers
+pub meant_left : (given out made meant : List ℕ) → (length given ≡ 80 → made ≡ meant)
+    → if_done (row_code (length given) (length out)) made out ≡ if_done (row_code (length given) (length out)) meant out
+meant_left given out made meant same = go (eqb (row_code (length given) (length out)) 0) refl
+  where
+    go : (t : Bool) → eqb (row_code (length given) (length out)) 0 ≡ t → cond t made out ≡ cond t meant out
+    go true e = same (row-passed (length given) (length out) (eqb-true (row_code (length given) (length out)) 0 e)).0
+    go false e = refl

@@ -1,6 +1,11 @@
--- Inner: both maps as one over the row, each number put into an arrangement by its place.
-use Rattle.std.specs.Prelude.{Bool, cond, List, [], ◌∷◌, ℕ, suc, ◌+◌, ◌-◌, ◌/◌, ◌%◌}
+-- Inner: exchanges of bits one after the other, and both maps as one over the row, each number put into an arrangement by its place.
+use Rattle.std.specs.Prelude.{Bool, cond, List, [], ◌∷◌, ℕ, suc, ◌+◌, ◌-◌, ◌/◌, ◌%◌, fold}
+use Rattle.primitives.specs.Words.{swapped_single}
 use Rattle.round_words.specs.Arranged.{arranged}
+
+-- bits under a mask exchanged with those so many places above, for each mask of a list
+abbrev pub swapped_by : List (ℕ × ℕ) → ℕ → ℕ
+swapped_by swaps x = fold (λ w s. swapped_single w s.0 (s.1 % 32)) x swaps
 
 -- the arrangement of the number at place i, and the one that undoes it
 unfoldable pub place_in : Bool → ℕ → ℕ

@@ -74,21 +74,21 @@ fills_part {R} a k n y new rest h len e right f =
 -- ---- the masks of a word
 
 -- the values of the bits' places, a row for each arrangement
-abbrev pub Places : List ℕ → Type 0
-Places places = (m : ℕ) → m < 160 → get_or places m 0 ≡ 2 ^ nibble_at (4 - m / 32) (m % 32)
+abbrev pub Places : List (List ℕ) → Type 0
+Places places = (m : ℕ) → m < 160 → get_or (get_or places (m / 32) []) (m % 32) 0 ≡ 2 ^ nibble_at (4 - m / 32) (m % 32)
 
-abbrev table : List ℕ
+abbrev table : List (List ℕ)
 table =
-    0x00000008 ∷ 0x00000080 ∷ 0x00000800 ∷ 0x00008000 ∷ 0x00080000 ∷ 0x00800000 ∷ 0x08000000 ∷ 0x80000000 ∷ 0x00000004 ∷ 0x00000040 ∷ 0x00000400 ∷ 0x00004000 ∷ 0x00040000 ∷ 0x00400000 ∷ 0x04000000 ∷ 0x40000000 ∷ 0x00000002 ∷ 0x00000020 ∷ 0x00000200 ∷ 0x00002000 ∷ 0x00020000 ∷ 0x00200000 ∷ 0x02000000 ∷ 0x20000000 ∷ 0x00000001 ∷ 0x00000010 ∷ 0x00000100 ∷ 0x00001000 ∷ 0x00010000 ∷ 0x00100000 ∷ 0x01000000 ∷ 0x10000000
-    ∷ 0x00008000 ∷ 0x80000000 ∷ 0x00004000 ∷ 0x40000000 ∷ 0x00002000 ∷ 0x20000000 ∷ 0x00001000 ∷ 0x10000000 ∷ 0x00000800 ∷ 0x08000000 ∷ 0x00000400 ∷ 0x04000000 ∷ 0x00000200 ∷ 0x02000000 ∷ 0x00000100 ∷ 0x01000000 ∷ 0x00000080 ∷ 0x00800000 ∷ 0x00000040 ∷ 0x00400000 ∷ 0x00000020 ∷ 0x00200000 ∷ 0x00000010 ∷ 0x00100000 ∷ 0x00000008 ∷ 0x00080000 ∷ 0x00000004 ∷ 0x00040000 ∷ 0x00000002 ∷ 0x00020000 ∷ 0x00000001 ∷ 0x00010000
-    ∷ 0x40000000 ∷ 0x10000000 ∷ 0x04000000 ∷ 0x01000000 ∷ 0x00400000 ∷ 0x00100000 ∷ 0x00040000 ∷ 0x00010000 ∷ 0x00004000 ∷ 0x00001000 ∷ 0x00000400 ∷ 0x00000100 ∷ 0x00000040 ∷ 0x00000010 ∷ 0x00000004 ∷ 0x00000001 ∷ 0x80000000 ∷ 0x20000000 ∷ 0x08000000 ∷ 0x02000000 ∷ 0x00800000 ∷ 0x00200000 ∷ 0x00080000 ∷ 0x00020000 ∷ 0x00008000 ∷ 0x00002000 ∷ 0x00000800 ∷ 0x00000200 ∷ 0x00000080 ∷ 0x00000020 ∷ 0x00000008 ∷ 0x00000002
-    ∷ 0x01000000 ∷ 0x00010000 ∷ 0x00000100 ∷ 0x00000001 ∷ 0x02000000 ∷ 0x00020000 ∷ 0x00000200 ∷ 0x00000002 ∷ 0x04000000 ∷ 0x00040000 ∷ 0x00000400 ∷ 0x00000004 ∷ 0x08000000 ∷ 0x00080000 ∷ 0x00000800 ∷ 0x00000008 ∷ 0x10000000 ∷ 0x00100000 ∷ 0x00001000 ∷ 0x00000010 ∷ 0x20000000 ∷ 0x00200000 ∷ 0x00002000 ∷ 0x00000020 ∷ 0x40000000 ∷ 0x00400000 ∷ 0x00004000 ∷ 0x00000040 ∷ 0x80000000 ∷ 0x00800000 ∷ 0x00008000 ∷ 0x00000080
-    ∷ 0x00000001 ∷ 0x00000002 ∷ 0x00000004 ∷ 0x00000008 ∷ 0x00000010 ∷ 0x00000020 ∷ 0x00000040 ∷ 0x00000080 ∷ 0x00000100 ∷ 0x00000200 ∷ 0x00000400 ∷ 0x00000800 ∷ 0x00001000 ∷ 0x00002000 ∷ 0x00004000 ∷ 0x00008000 ∷ 0x00010000 ∷ 0x00020000 ∷ 0x00040000 ∷ 0x00080000 ∷ 0x00100000 ∷ 0x00200000 ∷ 0x00400000 ∷ 0x00800000 ∷ 0x01000000 ∷ 0x02000000 ∷ 0x04000000 ∷ 0x08000000 ∷ 0x10000000 ∷ 0x20000000 ∷ 0x40000000 ∷ 0x80000000
+    (0x00000008 ∷ 0x00000080 ∷ 0x00000800 ∷ 0x00008000 ∷ 0x00080000 ∷ 0x00800000 ∷ 0x08000000 ∷ 0x80000000 ∷ 0x00000004 ∷ 0x00000040 ∷ 0x00000400 ∷ 0x00004000 ∷ 0x00040000 ∷ 0x00400000 ∷ 0x04000000 ∷ 0x40000000 ∷ 0x00000002 ∷ 0x00000020 ∷ 0x00000200 ∷ 0x00002000 ∷ 0x00020000 ∷ 0x00200000 ∷ 0x02000000 ∷ 0x20000000 ∷ 0x00000001 ∷ 0x00000010 ∷ 0x00000100 ∷ 0x00001000 ∷ 0x00010000 ∷ 0x00100000 ∷ 0x01000000 ∷ 0x10000000 ∷ [])
+    ∷ (0x00008000 ∷ 0x80000000 ∷ 0x00004000 ∷ 0x40000000 ∷ 0x00002000 ∷ 0x20000000 ∷ 0x00001000 ∷ 0x10000000 ∷ 0x00000800 ∷ 0x08000000 ∷ 0x00000400 ∷ 0x04000000 ∷ 0x00000200 ∷ 0x02000000 ∷ 0x00000100 ∷ 0x01000000 ∷ 0x00000080 ∷ 0x00800000 ∷ 0x00000040 ∷ 0x00400000 ∷ 0x00000020 ∷ 0x00200000 ∷ 0x00000010 ∷ 0x00100000 ∷ 0x00000008 ∷ 0x00080000 ∷ 0x00000004 ∷ 0x00040000 ∷ 0x00000002 ∷ 0x00020000 ∷ 0x00000001 ∷ 0x00010000 ∷ [])
+    ∷ (0x40000000 ∷ 0x10000000 ∷ 0x04000000 ∷ 0x01000000 ∷ 0x00400000 ∷ 0x00100000 ∷ 0x00040000 ∷ 0x00010000 ∷ 0x00004000 ∷ 0x00001000 ∷ 0x00000400 ∷ 0x00000100 ∷ 0x00000040 ∷ 0x00000010 ∷ 0x00000004 ∷ 0x00000001 ∷ 0x80000000 ∷ 0x20000000 ∷ 0x08000000 ∷ 0x02000000 ∷ 0x00800000 ∷ 0x00200000 ∷ 0x00080000 ∷ 0x00020000 ∷ 0x00008000 ∷ 0x00002000 ∷ 0x00000800 ∷ 0x00000200 ∷ 0x00000080 ∷ 0x00000020 ∷ 0x00000008 ∷ 0x00000002 ∷ [])
+    ∷ (0x01000000 ∷ 0x00010000 ∷ 0x00000100 ∷ 0x00000001 ∷ 0x02000000 ∷ 0x00020000 ∷ 0x00000200 ∷ 0x00000002 ∷ 0x04000000 ∷ 0x00040000 ∷ 0x00000400 ∷ 0x00000004 ∷ 0x08000000 ∷ 0x00080000 ∷ 0x00000800 ∷ 0x00000008 ∷ 0x10000000 ∷ 0x00100000 ∷ 0x00001000 ∷ 0x00000010 ∷ 0x20000000 ∷ 0x00200000 ∷ 0x00002000 ∷ 0x00000020 ∷ 0x40000000 ∷ 0x00400000 ∷ 0x00004000 ∷ 0x00000040 ∷ 0x80000000 ∷ 0x00800000 ∷ 0x00008000 ∷ 0x00000080 ∷ [])
+    ∷ (0x00000001 ∷ 0x00000002 ∷ 0x00000004 ∷ 0x00000008 ∷ 0x00000010 ∷ 0x00000020 ∷ 0x00000040 ∷ 0x00000080 ∷ 0x00000100 ∷ 0x00000200 ∷ 0x00000400 ∷ 0x00000800 ∷ 0x00001000 ∷ 0x00002000 ∷ 0x00004000 ∷ 0x00008000 ∷ 0x00010000 ∷ 0x00020000 ∷ 0x00040000 ∷ 0x00080000 ∷ 0x00100000 ∷ 0x00200000 ∷ 0x00400000 ∷ 0x00800000 ∷ 0x01000000 ∷ 0x02000000 ∷ 0x04000000 ∷ 0x08000000 ∷ 0x10000000 ∷ 0x20000000 ∷ 0x40000000 ∷ 0x80000000 ∷ [])
     ∷ []
 
 pub places_right : Places table
 unfolding nibble_at N P
-places_right = agree 160 (λ m. get_or table m 0) (λ m. 2 ^ nibble_at (4 - m / 32) (m % 32)) tt
+places_right = agree 160 (λ m. get_or (get_or table (m / 32) []) (m % 32) 0) (λ m. 2 ^ nibble_at (4 - m / 32) (m % 32)) tt
 
 stands_bit : (k w i : ℕ) → k < 5 → i < 32 → bit (stands (suc k) w) i ≡ bit w (nibble_at (4 - k) i)
 unfolding stands permuted
@@ -97,15 +97,14 @@ stands_bit k w i hk hi = bit_of_bits 32 (λ i. bit w (nibble_at (5 - suc k) i)) 
     less : 5 - suc k ≡ 4 - k
     less = omega arith
 
-pub word-masks : (words places new : List ℕ) (r : ℕ) → r < 80 → Places places → length places ≡ 160
-    → MasksBy (get_or words r 0) (take (32 * (r / 2 % 5) + 32 - 32 * (r / 2 % 5)) (drop (32 * (r / 2 % 5)) places)) new → (i : ℕ) → i < 32 → MaskAt words (32 * r + i) (get_or new i 0)
-word-masks words places new r hr rule len m i hi =
+pub word-masks : (words : List ℕ) (places : List (List ℕ)) (new : List ℕ) (r : ℕ) → r < 80 → Places places
+    → MasksBy (get_or words r 0) (get_or places (r / 2 % 5) []) new → (i : ℕ) → i < 32 → MaskAt words (32 * r + i) (get_or new i 0)
+word-masks words places new r hr rule m i hi =
     m.masks i hi
-    ∙ ap (mask_by (get_or words r 0)) (get_or-take (32 * k + 32 - 32 * k) (drop (32 * k) places) i 0 (omega arith) ∙ get_or-drop (32 * k) places i 0 ∙ rule (32 * k + i) (omega arith))
-    ∙ mask_is (get_or words r 0) (nibble_at (4 - (32 * k + i) / 32) ((32 * k + i) % 32))
-    ∙ ap₂ (λ (a b : ℕ). everywhere (bit (get_or words r 0) (nibble_at (4 - a) b))) row column
+    ∙ ap (mask_by (get_or words r 0)) place
+    ∙ mask_is (get_or words r 0) (nibble_at (4 - k) i)
     ∙ ap everywhere (sym (stands_bit k (get_or words r 0) i (omega arith) hi))
-    ∙ (λ t. everywhere (bit (stands (suc (round t % 5)) (get_or words (word t) 0)) (place t)))
+    ∙ (λ t. everywhere (bit (stands (suc (round t % 5)) (get_or words (word t) 0)) (at t)))
   where
     k : ℕ
     k = r / 2 % 5
@@ -116,14 +115,17 @@ word-masks words places new r hr rule len m i hi =
     column : (32 * k + i) % 32 ≡ i
     column = omega arith
 
+    place : get_or (get_or places k []) i 0 ≡ 2 ^ nibble_at (4 - k) i
+    place = rw (row, column) at (rule (32 * k + i) (omega arith))
+
     round : r / 2 ≡ (32 * r + i) / 64
     round = omega arith
 
     word : r ≡ (32 * r + i) / 32
     word = omega arith
 
-    place : i ≡ (32 * r + i) % 32
-    place = omega arith
+    at : i ≡ (32 * r + i) % 32
+    at = omega arith
 
 -- ---- the pairs in a lane
 

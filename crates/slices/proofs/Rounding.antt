@@ -1,9 +1,11 @@
--- Two rounds of forty at a time: what is left to do, and what is undone already; and the constants.
-use mathlib.Core.Path.{◌≡◌, sym, ap, ◌∙◌}
+-- A round of forty at a time: what is left to do, and what is undone already; and the constants.
+use mathlib.Core.Path.{◌≡◌, refl, sym, ap, ◌∙◌}
 use mathlib.Core.List.{List, [], ◌∷◌}
-use Prim.Native.Nat.{ℕ, zero, suc, ◌+◌, ◌-◌, ◌*◌, ◌<◌, ◌≤◌}
+use Prim.Native.Nat.{ℕ, zero, suc, ◌+◌, ◌*◌, ◌/◌, ◌<◌, ◌≤◌}
 use native.Mathlib.Omega.{arith}
 use lib.ListN.{length, take, drop, get_or}
+use Rattle.std.specs.Simd.{first_chunks}
+use Rattle.std.proofs.lemmas.List.{drop-drop}
 use Rattle.bits.specs.Digit.{digit, bit}
 use Rattle.bits.proofs.Computed.{agree}
 use Rattle.published.specs.Rounds.{step, constant, round, rounds, unround, unrounds}
@@ -21,51 +23,18 @@ pub constant_at_lem : (r : ℕ) → r < 40 → get_or constants r 0 ≡ constant
 unfolding constant step bit digit
 constant_at_lem = agree 40 (λ r. get_or constants r 0) (λ r. constant (suc r)) tt
 
-pub constant_next : (r : ℕ) → r < 39 → get_or constants (r + 1) 0 ≡ constant (suc (suc r))
-constant_next r h = constant_at_lem (r + 1) (omega arith) ∙ ap (λ (k : ℕ). constant (suc k)) next
-  where
-    next : r + 1 ≡ suc r
-    next = omega arith
+-- ---- the masks of a round
 
--- ---- two rounds
+chunk_at_lem : (k : ℕ) (masks : List ℕ) (r : ℕ) → r < k → get_or (first_chunks 64 k masks) r [] ≡ take 64 (drop (64 * r) masks)
+chunk_at_lem zero masks r h = absurd (omega arith)
+chunk_at_lem (suc k) masks zero h = refl
+chunk_at_lem (suc k) masks (suc r) h =
+    let next : 64 + 64 * r ≡ 64 * suc r = omega arith in
+    chunk_at_lem k (drop 64 masks) r (omega arith) ∙ ap (take 64) (drop-drop (64 * r) 64 masks) ∙ ap (λ (n : ℕ). take 64 (drop n masks)) next
 
-module _ (masks : List ℕ) (r : ℕ) where
-  abbrev pub both : ℕ → ℕ → ℕ
-  both b s = round 128 1 (pair_of masks (suc r) b) (constant (suc (suc r))) (round 128 1 (pair_of masks r b) (constant (suc r)) s)
-
-  abbrev pub unboth : ℕ → ℕ → ℕ
-  unboth b s = unround 128 1 (pair_of masks r b) (constant (suc r)) (unround 128 1 (pair_of masks (suc r) b) (constant (suc (suc r))) s)
-
--- parts of the masks, as the code takes them
-pub parts : (masks : List ℕ) (r : ℕ) → (take (64 * r + 64 - 64 * r) (drop (64 * r) masks) ≡ take 64 (drop (64 * r) masks))
-    × (take (64 * r + 64 + 64 - (64 * r + 64)) (drop (64 * r + 64) masks) ≡ take 64 (drop (64 * suc r) masks))
-parts masks r =
-    let a : 64 * r + 64 - 64 * r ≡ 64 = omega arith in
-    let b : 64 * r + 64 + 64 - (64 * r + 64) ≡ 64 = omega arith in
-    let c : 64 * r + 64 ≡ 64 * suc r = omega arith in
-    (ap (λ (n : ℕ). take n (drop (64 * r) masks)) a, ap (λ (n : ℕ). take n (drop (64 * r + 64) masks)) b ∙ ap (λ (n : ℕ). take 64 (drop n masks)) c)
-
-module _ (masks : List ℕ) (r : ℕ) {v w : List ℕ} (ev : v ≡ take 64 (drop (64 * r) masks)) (ew : w ≡ take 64 (drop (64 * suc r) masks)) {c d : ℕ} (ec : c ≡ constant (suc r)) (ed : d ≡ constant (suc (suc r)))
-    {x y z : List ℕ} where
-  pub two_made : Lanes (λ b. round 128 1 (pair_in v b) c) x y → Lanes (λ b. round 128 1 (pair_in w b) d) y z → Lanes (both masks r) x z
-  two_made k l =
-      record {
-        size = l.size;
-        lanes =
-            λ b h.
-            l.lanes b h ∙ ap (round 128 1 (pair_in w b) d) (k.lanes b h)
-            ∙ (λ i. round 128 1 (pair_in (ew i) b) (ed i) (round 128 1 (pair_in (ev i) b) (ec i) (lane x b)));
-      }
-
-  pub two_unmade : Lanes (λ b. unround 128 1 (pair_in w b) d) x y → Lanes (λ b. unround 128 1 (pair_in v b) c) y z → Lanes (unboth masks r) x z
-  two_unmade k l =
-      record {
-        size = l.size;
-        lanes =
-            λ b h.
-            l.lanes b h ∙ ap (unround 128 1 (pair_in v b) c) (k.lanes b h)
-            ∙ (λ i. unround 128 1 (pair_in (ev i) b) (ec i) (unround 128 1 (pair_in (ew i) b) (ed i) (lane x b)));
-      }
+pub key_at_lem : (masks : List ℕ) (keys : List (List ℕ)) (r : ℕ) → keys ≡ first_chunks 64 (length masks / 64) masks → length masks ≡ 2560 → r < 40
+    → get_or keys r [] ≡ take 64 (drop (64 * r) masks)
+key_at_lem masks keys r e len h = ap (λ (l : List (List ℕ)). get_or l r []) e ∙ chunk_at_lem (length masks / 64) masks r (omega arith)
 
 -- ---- what is left after r rounds
 
@@ -79,23 +48,21 @@ rest_all masks x e = record { size = e; rest = λ n h b l. ap (λ (k : ℕ). rou
     all : (n : ℕ) → 0 + n ≡ 40 → n ≡ 40
     all n h = omega arith
 
-pub rest_less : (masks x₀ : List ℕ) (r : ℕ) {x y : List ℕ} → Rest masks x₀ r x → Lanes (both masks r) x y → Rest masks x₀ (r + 2) y
+pub rest_less : (masks x₀ : List ℕ) (r n : ℕ) {k : List ℕ} {c : ℕ} {x y : List ℕ} → n ≡ suc r → k ≡ take 64 (drop (64 * r) masks) → c ≡ constant (suc r)
+    → Rest masks x₀ r x → Lanes (λ b. round 128 1 (pair_in k b) c) x y → Rest masks x₀ n y
 unfolding rounds pairs_in
-rest_less masks x₀ r {x} {y} before two =
+rest_less masks x₀ r n {k} {c} {x} {y} e ek ec before one =
     record {
-      size = two.size;
+      size = one.size;
       rest =
-          λ n h b l.
-          ap (λ (k : ℕ). rounds128 (pairs_in masks b n k) k (lane y b)) next
-          ∙ ap (rounds128 (pairs_in masks b n (suc (suc r))) (suc (suc r))) (two.lanes b l)
-          ∙ before.rest (suc (suc n)) (left n h) b l;
+          λ m h b l.
+          ap (λ (j : ℕ). rounds128 (pairs_in masks b m j) j (lane y b)) e
+          ∙ ap (rounds128 (pairs_in masks b m (suc r)) (suc r)) (one.lanes b l ∙ (λ i. round 128 1 (pair_in (ek i) b) (ec i) (lane x b)))
+          ∙ before.rest (suc m) (left m h) b l;
     }
   where
-    next : r + 2 ≡ suc (suc r)
-    next = omega arith
-
-    left : (n : ℕ) → r + 2 + n ≡ 40 → r + suc (suc n) ≡ 40
-    left n h = omega arith
+    left : (m : ℕ) → n + m ≡ 40 → r + suc m ≡ 40
+    left m h = omega arith
 
 pub rest_none : (masks x₀ x : List ℕ) (r : ℕ) → r ≡ 40 → Rest masks x₀ r x → Lanes (λ b. rounds128 (pairs_in masks b 40 0) 0) x₀ x
 unfolding rounds pairs_in
@@ -117,16 +84,17 @@ undone_none masks x e = record { size = e; undone = λ n h b l. sym (ap (λ (k :
     none : (n : ℕ) → 40 + n ≡ 40 → n ≡ 0
     none n h = omega arith
 
-pub undone_more : (masks x₀ : List ℕ) (r k : ℕ) {x y : List ℕ} → k ≡ suc (suc r) → k ≤ 40 → Undone masks x₀ k x → Lanes (unboth masks r) x y → Undone masks x₀ r y
+pub undone_more : (masks x₀ : List ℕ) (r n : ℕ) {k : List ℕ} {c : ℕ} {x y : List ℕ} → n ≡ suc r → n ≤ 40 → k ≡ take 64 (drop (64 * r) masks) → c ≡ constant (suc r)
+    → Undone masks x₀ n x → Lanes (λ b. unround 128 1 (pair_in k b) c) x y → Undone masks x₀ r y
 unfolding unrounds pairs_in
-undone_more masks x₀ r k {x} {y} e room before two = record { size = two.size; undone = λ n h b l. go n h b l }
+undone_more masks x₀ r n {k} {c} {x} {y} e room ek ec before one = record { size = one.size; undone = λ m h b l. go m h b l }
   where
-    go : (n : ℕ) → r + n ≡ 40 → (b : ℕ) → b < 64 → lane y b ≡ unrounds128 (pairs_in masks b n r) r (lane x₀ b)
+    go : (m : ℕ) → r + m ≡ 40 → (b : ℕ) → b < 64 → lane y b ≡ unrounds128 (pairs_in masks b m r) r (lane x₀ b)
     go zero h b l = absurd (omega arith)
-    go (suc zero) h b l = absurd (omega arith)
-    go (suc (suc n)) h b l =
-        let left : k + n ≡ 40 = omega arith in
-        two.lanes b l ∙ ap (unboth masks r b) (before.undone n left b l ∙ ap (λ (m : ℕ). unrounds128 (pairs_in masks b n m) m (lane x₀ b)) e)
+    go (suc m) h b l =
+        let left : n + m ≡ 40 = omega arith in
+        one.lanes b l ∙ (λ i. unround 128 1 (pair_in (ek i) b) (ec i) (lane x b))
+        ∙ ap (unround 128 1 (pair_of masks r b) (constant (suc r))) (before.undone m left b l ∙ ap (λ (j : ℕ). unrounds128 (pairs_in masks b m j) j (lane x₀ b)) e)
 
 pub undone_all : (masks x₀ x : List ℕ) (r : ℕ) → r ≡ 0 → Undone masks x₀ r x → Lanes (λ b. unrounds128 (pairs_in masks b 40 0) 0) x₀ x
 undone_all masks x₀ x r e s = record { size = s.size; lanes = λ b l. s.undone 40 (end e) b l ∙ ap (λ (k : ℕ). unrounds128 (pairs_in masks b 40 k) k (lane x₀ b)) e }

@@ -2,7 +2,7 @@
 // has them, on 64 blocks at a time; P is a matter of which word is written, and the key's bits are masks.
 #![tactic(auto)]
 
-ghost use Rattle.std.specs.Prelude.{◌≡◌, cond, ℕ, suc, ◌+◌, ◌-◌, ◌*◌, ◌/◌, ◌%◌, ◌^◌, ◌≤◌, ◌<◌, length, get_or, eqb};
+ghost use Rattle.std.specs.Prelude.{◌≡◌, cond, ℕ, [], ◌+◌, ◌-◌, ◌*◌, ◌/◌, ◌%◌, ◌^◌, ◌<◌, length, get_or, eqb};
 ghost use Rattle.published.specs.Blocks.{all_of};
 ghost use Rattle.published.specs.Gift128.{rounds128, unrounds128, rounds_all};
 ghost use Rattle.published.specs.Rounds.{P, entry, xored, constant_bit, constant, round, unround};
@@ -71,24 +71,62 @@ fn inv_sbox(s: Nibble) -> Nibble
     }
 }
 
-// ---- 1, 2 and 3: nibble n through the box, and its bits to nibbles a, b, c and d, keyed by V at b(4i+1) and by U at b(4i+2)
+// ---- 1, 2 and 3: nibble n through the box, and its bits to four nibbles, keyed by V at b(4i+1) and by U at b(4i+2)
 
-fn scatter_nibble(
-    x: &[u64],
-    y: &mut [u64],
-    key: &[u64],
+// Where P takes the bits of nibble n: bit 0 to nibble a, bit 1 to nibble b, bit 2 to nibble c and bit 3 to nibble d.
+#[derive(Clone, Copy)]
+struct Move {
     n: usize,
     a: usize,
     b: usize,
     c: usize,
     d: usize,
-)
-    requires x_len { (length x.now ≡ 128) × (length key.now ≡ 64) × (length y.old ≡ 128) × (n < 32) }
-    requires a_value { (4 * a ≡ P 128 (4 * n)) × (4 * b + 1 ≡ P 128 (4 * n + 1)) × (4 * c + 2 ≡ P 128 (4 * n + 2)) × (4 * d + 3 ≡ P 128 (4 * n + 3)) }
-    requires a_bound { (a < 32) × (b < 32) × (c < 32) × (d < 32) }
-    ensures { Scattered x.now key.now (4 * n) y.old → Scattered x.now key.now (4 * n + 4) y.new }
+    ghost within: { (n < 32) × (a < 32) × (b < 32) × (c < 32) × (d < 32) },
+    ghost goes: { (4 * a ≡ P 128 (4 * n)) × (4 * b + 1 ≡ P 128 (4 * n + 1)) × (4 * c + 2 ≡ P 128 (4 * n + 2)) × (4 * d + 3 ≡ P 128 (4 * n + 3)) },
+}
+
+// P: bit j of nibble 4g + h goes to nibble g + 8 * ((3h + j) mod 4). Written out for each h, because the compiler then sees four places and no arithmetic.
+fn move_of(g: usize, h: usize) -> Move
+    requires { (g < 8) × (h < 4) }
+    ensures { result.n ≡ 4 * g + h }
 {
-    let at = 4 * n;
+    let (a, b, c, d) = (g, g + 8, g + 16, g + 24);
+    match h {
+        0 => Move {
+            n: 4 * g,
+            a,
+            b,
+            c,
+            d,
+        },
+        1 => Move {
+            n: 4 * g + 1,
+            a: d,
+            b: a,
+            c: b,
+            d: c,
+        },
+        2 => Move {
+            n: 4 * g + 2,
+            a: c,
+            b: d,
+            c: a,
+            d: b,
+        },
+        _ => Move {
+            n: 4 * g + 3,
+            a: b,
+            b: c,
+            c: d,
+            d: a,
+        },
+    }
+}
+
+fn scatter_nibble(x: &[u64; 128], y: &mut [u64; 128], key: &[u64; 64], m: Move)
+    ensures { Scattered x.now key.now (4 * m.n) y.old → Scattered x.now key.now (4 * m.n + 4) y.new }
+{
+    let at = 4 * m.n;
     let s = Nibble {
         s0: x[at],
         s1: x[at + 1],
@@ -97,80 +135,49 @@ fn scatter_nibble(
     };
     let t = sbox(s);
     // The key is read before the stores: for all that the compiler knows, they might change it.
-    let v = key[b];
-    let u = key[32 + c];
-    y[4 * a] = t.s0;
-    y[4 * b + 1] = t.s1 ^ v;
-    y[4 * c + 2] = t.s2 ^ u;
-    y[4 * d + 3] = t.s3;
+    let v = key[m.b];
+    let u = key[32 + m.c];
+    y[4 * m.a] = t.s0;
+    y[4 * m.b + 1] = t.s1 ^ v;
+    y[4 * m.c + 2] = t.s2 ^ u;
+    y[4 * m.d + 3] = t.s3;
 }
 
-// P: bit j of nibble 4g + h goes to nibble g + 8 * ((3h + j) mod 4).
-fn scatter_four(x: &[u64], y: &mut [u64], key: &[u64], g: usize)
-    requires { (length x.now ≡ 128) × (length key.now ≡ 64) × (length y.old ≡ 128) × (g < 8) }
-    ensures { Scattered x.now key.now (16 * g) y.old → Scattered x.now key.now (16 * g + 16) y.new }
-{
-    scatter_nibble(x, y, key, 4 * g, g, g + 8, g + 16, g + 24);
-    scatter_nibble(x, y, key, 4 * g + 1, g + 24, g, g + 8, g + 16);
-    scatter_nibble(x, y, key, 4 * g + 2, g + 16, g + 24, g, g + 8);
-    scatter_nibble(x, y, key, 4 * g + 3, g + 8, g + 16, g + 24, g);
-}
-
-fn scatter(x: &[u64], y: &mut [u64], key: &[u64])
-    requires { (length x.now ≡ 128) × (length key.now ≡ 64) × (length y.old ≡ 128) }
+fn scatter(x: &[u64; 128], y: &mut [u64; 128], key: &[u64; 64])
     ensures { Lanes (keyed key.now) x.now y.new }
 {
     for g in 0..8 {
-        scatter_four(x, y, key, g);
+        for h in 0..4 {
+            scatter_nibble(x, y, key, move_of(g, h));
+        }
     }
 }
 
-// And undone: nibble n from bits of nibbles a, b, c and d.
-fn gather_nibble(
-    x: &[u64],
-    y: &mut [u64],
-    key: &[u64],
-    n: usize,
-    a: usize,
-    b: usize,
-    c: usize,
-    d: usize,
-)
-    requires x_len { (length x.now ≡ 128) × (length key.now ≡ 64) × (length y.old ≡ 128) × (n < 32) }
-    requires a_value { (4 * a ≡ P 128 (4 * n)) × (4 * b + 1 ≡ P 128 (4 * n + 1)) × (4 * c + 2 ≡ P 128 (4 * n + 2)) × (4 * d + 3 ≡ P 128 (4 * n + 3)) }
-    requires a_bound { (a < 32) × (b < 32) × (c < 32) × (d < 32) }
-    ensures { Gathered x.now key.now (4 * n) y.old → Gathered x.now key.now (4 * n + 4) y.new }
+// And undone: nibble n from the bits of the four.
+fn gather_nibble(x: &[u64; 128], y: &mut [u64; 128], key: &[u64; 64], m: Move)
+    ensures { Gathered x.now key.now (4 * m.n) y.old → Gathered x.now key.now (4 * m.n + 4) y.new }
 {
     let s = Nibble {
-        s0: x[4 * a],
-        s1: x[4 * b + 1] ^ key[b],
-        s2: x[4 * c + 2] ^ key[32 + c],
-        s3: x[4 * d + 3],
+        s0: x[4 * m.a],
+        s1: x[4 * m.b + 1] ^ key[m.b],
+        s2: x[4 * m.c + 2] ^ key[32 + m.c],
+        s3: x[4 * m.d + 3],
     };
     let t = inv_sbox(s);
-    let at = 4 * n;
+    let at = 4 * m.n;
     y[at] = t.s0;
     y[at + 1] = t.s1;
     y[at + 2] = t.s2;
     y[at + 3] = t.s3;
 }
 
-fn gather_four(x: &[u64], y: &mut [u64], key: &[u64], g: usize)
-    requires { (length x.now ≡ 128) × (length key.now ≡ 64) × (length y.old ≡ 128) × (g < 8) }
-    ensures { Gathered x.now key.now (16 * g) y.old → Gathered x.now key.now (16 * g + 16) y.new }
-{
-    gather_nibble(x, y, key, 4 * g, g, g + 8, g + 16, g + 24);
-    gather_nibble(x, y, key, 4 * g + 1, g + 24, g, g + 8, g + 16);
-    gather_nibble(x, y, key, 4 * g + 2, g + 16, g + 24, g, g + 8);
-    gather_nibble(x, y, key, 4 * g + 3, g + 8, g + 16, g + 24, g);
-}
-
-fn gather(x: &[u64], y: &mut [u64], key: &[u64])
-    requires { (length x.now ≡ 128) × (length key.now ≡ 64) × (length y.old ≡ 128) }
+fn gather(x: &[u64; 128], y: &mut [u64; 128], key: &[u64; 64])
     ensures { Lanes (unkeyed key.now) x.now y.new }
 {
     for g in 0..8 {
-        gather_four(x, y, key, g);
+        for h in 0..4 {
+            gather_nibble(x, y, key, move_of(g, h));
+        }
     }
 }
 
@@ -181,34 +188,30 @@ fn mask(word: u32, one: u32) -> u64
     ensures { result ≡ mask_by word one }
 {
     if word & one == 0 {
-        return 0;
+        0
+    } else {
+        0xffffffffffffffff
     }
-    0xffffffffffffffff
 }
 
 // b23, b19, b15, b11, b7 and b3 are xored with c5 to c0.
-fn six_bits(y: &mut [u64], c: u32)
-    requires { length y.old ≡ 128 }
+// Stays: an index, since i is the bit of the constant as well as the place of its slice.
+fn six_bits(y: &mut [u64; 128], c: u32)
     ensures { Lanes (λ b. xored 128 (constant_bits 6 c)) y.old y.new }
 {
     for i in 0..6 {
-        let one = 1u32 << i;
-        let m = mask(c, one);
-        let at = 4 * i + 3;
-        y[at] ^= m;
+        y[4 * i + 3] ^= mask(c, 1 << i);
     }
 }
 
 // b127 is flipped.
-fn highest(y: &mut [u64])
-    requires { length y.old ≡ 128 }
+fn highest(y: &mut [u64; 128])
     ensures { Lanes (λ b. xored 128 (λ q. eqb q 127)) y.old y.new }
 {
     y[127] ^= 0xffffffffffffffff;
 }
 
-fn add_constant(y: &mut [u64], c: u32)
-    requires { length y.old ≡ 128 }
+fn add_constant(y: &mut [u64; 128], c: u32)
     ensures { Lanes (λ b. xored 128 (constant_bit 128 c)) y.old y.new }
 {
     six_bits(y, c);
@@ -216,17 +219,16 @@ fn add_constant(y: &mut [u64], c: u32)
 }
 
 // ---- a round, and a round undone; x is used up
+// Stays: a function each way, above and below: the box, the places that are read and the order of the steps are others, and document 01 has two calls.
 
-fn round(x: &mut [u64], y: &mut [u64], key: &[u64], c: u32)
-    requires { (length x.old ≡ 128) × (length key.now ≡ 64) × (length y.old ≡ 128) }
+fn round(x: &mut [u64; 128], y: &mut [u64; 128], key: &[u64; 64], c: u32)
     ensures { Lanes (λ b. round 128 1 (pair_in key.now b) c) x.old y.new }
 {
     scatter(x, y, key);
     add_constant(y, c);
 }
 
-fn unround(x: &mut [u64], y: &mut [u64], key: &[u64], c: u32)
-    requires { (length x.old ≡ 128) × (length key.now ≡ 64) × (length y.old ≡ 128) }
+fn unround(x: &mut [u64; 128], y: &mut [u64; 128], key: &[u64; 64], c: u32)
     ensures { Lanes (λ b. unround 128 1 (pair_in key.now b) c) x.old y.new }
 {
     add_constant(x, c);
@@ -242,61 +244,31 @@ const CONSTANTS: [u32; 40] = [
     0x31, 0x23, 0x06, 0x0d, 0x1b, 0x36, 0x2d, 0x1a,
 ];
 
-// Rounds r + 1 and r + 2. The masks of a round are 64: of V, then of U.
-fn two_rounds(x: &mut [u64], y: &mut [u64], masks: &[u64], r: usize, c: u32, d: u32)
-    requires x_len { (length x.old ≡ 128) × (length masks.now ≡ 2560) × (length y.old ≡ 128) × (r < 39) }
-    requires c_value { (c ≡ constant (suc r)) × (d ≡ constant (suc (suc r))) }
-    ensures { Lanes (λ b s. round 128 1 (pair_of masks.now (suc r) b) (constant (suc (suc r))) (round 128 1 (pair_of masks.now r b) (constant (suc r)) s)) x.old x.new }
-{
-    let a = 64 * r;
-    let e = a + 64;
-    let f = e + 64;
-    round(x, y, &masks[a..e], c);
-    round(y, x, &masks[e..f], d);
-}
-
-fn two_unrounds(x: &mut [u64], y: &mut [u64], masks: &[u64], r: usize, c: u32, d: u32)
-    requires x_len { (length x.old ≡ 128) × (length masks.now ≡ 2560) × (length y.old ≡ 128) × (r < 39) }
-    requires c_value { (c ≡ constant (suc r)) × (d ≡ constant (suc (suc r))) }
-    ensures { Lanes (λ b s. unround 128 1 (pair_of masks.now r b) (constant (suc r)) (unround 128 1 (pair_of masks.now (suc r) b) (constant (suc (suc r))) s)) x.old x.new }
-{
-    let a = 64 * r;
-    let e = a + 64;
-    let f = e + 64;
-    unround(x, y, &masks[e..f], d);
-    unround(y, x, &masks[a..e], c);
-}
-
-fn forty(x: &mut [u64], y: &mut [u64], masks: &[u64])
-    requires { (length x.old ≡ 128) × (length masks.now ≡ 2560) × (length y.old ≡ 128) }
+// The masks of a round are 64: of V, then of U.
+// Stays: an index, since a turn is of two rounds, each with its own masks and constant, and x and y change places between them.
+fn forty(x: &mut [u64; 128], y: &mut [u64; 128], masks: &[u64; 2560])
     ensures { Lanes (λ b. rounds128 (pairs_in masks.now b 40 0) 0) x.old x.new }
 {
-    let table = CONSTANTS;
-    let mut r: usize = 0;
-    while r < 40 {
-        let c = table[r];
-        let d = table[r + 1];
-        two_rounds(x, y, masks, r, c, d);
-        r += 2;
+    let (keys, _) = masks.as_chunks::<64>();
+    for n in 0..20 {
+        let r = 2 * n;
+        round(x, y, &keys[r], CONSTANTS[r]);
+        round(y, x, &keys[r + 1], CONSTANTS[r + 1]);
     }
 }
 
-fn unforty(x: &mut [u64], y: &mut [u64], masks: &[u64])
-    requires { (length x.old ≡ 128) × (length masks.now ≡ 2560) × (length y.old ≡ 128) }
+fn unforty(x: &mut [u64; 128], y: &mut [u64; 128], masks: &[u64; 2560])
     ensures { Lanes (λ b. unrounds128 (pairs_in masks.now b 40 0) 0) x.old x.new }
 {
-    let table = CONSTANTS;
-    let mut r: usize = 40;
-    while 0 < r {
-        r -= 2;
-        let c = table[r];
-        let d = table[r + 1];
-        two_unrounds(x, y, masks, r, c, d);
+    let (keys, _) = masks.as_chunks::<64>();
+    for n in (0..20).rev() {
+        let r = 2 * n;
+        unround(x, y, &keys[r + 1], CONSTANTS[r + 1]);
+        unround(y, x, &keys[r], CONSTANTS[r]);
     }
 }
 
-fn through(x: &mut [u64], y: &mut [u64], masks: &[u64], back: bool)
-    requires { (length x.old ≡ 128) × (length masks.now ≡ 2560) × (length y.old ≡ 128) }
+fn through(x: &mut [u64; 128], y: &mut [u64; 128], masks: &[u64; 2560], back: bool)
     ensures { Lanes (λ b. rounds_all back (pairs_in masks.now b 40 0)) x.old x.new }
 {
     if back {
@@ -308,67 +280,78 @@ fn through(x: &mut [u64], y: &mut [u64], masks: &[u64], back: bool)
 
 // ---- the key's bits
 
-// The value of the bit that is bit i of a word which is kept k + 1 rounds in, at 32 * k + i: five rows, one for each arrangement.
-const PLACES: [u32; 160] = [
-    0x00000008, 0x00000080, 0x00000800, 0x00008000, 0x00080000, 0x00800000, 0x08000000, 0x80000000,
-    0x00000004, 0x00000040, 0x00000400, 0x00004000, 0x00040000, 0x00400000, 0x04000000, 0x40000000,
-    0x00000002, 0x00000020, 0x00000200, 0x00002000, 0x00020000, 0x00200000, 0x02000000, 0x20000000,
-    0x00000001, 0x00000010, 0x00000100, 0x00001000, 0x00010000, 0x00100000, 0x01000000, 0x10000000,
-    0x00008000, 0x80000000, 0x00004000, 0x40000000, 0x00002000, 0x20000000, 0x00001000, 0x10000000,
-    0x00000800, 0x08000000, 0x00000400, 0x04000000, 0x00000200, 0x02000000, 0x00000100, 0x01000000,
-    0x00000080, 0x00800000, 0x00000040, 0x00400000, 0x00000020, 0x00200000, 0x00000010, 0x00100000,
-    0x00000008, 0x00080000, 0x00000004, 0x00040000, 0x00000002, 0x00020000, 0x00000001, 0x00010000,
-    0x40000000, 0x10000000, 0x04000000, 0x01000000, 0x00400000, 0x00100000, 0x00040000, 0x00010000,
-    0x00004000, 0x00001000, 0x00000400, 0x00000100, 0x00000040, 0x00000010, 0x00000004, 0x00000001,
-    0x80000000, 0x20000000, 0x08000000, 0x02000000, 0x00800000, 0x00200000, 0x00080000, 0x00020000,
-    0x00008000, 0x00002000, 0x00000800, 0x00000200, 0x00000080, 0x00000020, 0x00000008, 0x00000002,
-    0x01000000, 0x00010000, 0x00000100, 0x00000001, 0x02000000, 0x00020000, 0x00000200, 0x00000002,
-    0x04000000, 0x00040000, 0x00000400, 0x00000004, 0x08000000, 0x00080000, 0x00000800, 0x00000008,
-    0x10000000, 0x00100000, 0x00001000, 0x00000010, 0x20000000, 0x00200000, 0x00002000, 0x00000020,
-    0x40000000, 0x00400000, 0x00004000, 0x00000040, 0x80000000, 0x00800000, 0x00008000, 0x00000080,
-    0x00000001, 0x00000002, 0x00000004, 0x00000008, 0x00000010, 0x00000020, 0x00000040, 0x00000080,
-    0x00000100, 0x00000200, 0x00000400, 0x00000800, 0x00001000, 0x00002000, 0x00004000, 0x00008000,
-    0x00010000, 0x00020000, 0x00040000, 0x00080000, 0x00100000, 0x00200000, 0x00400000, 0x00800000,
-    0x01000000, 0x02000000, 0x04000000, 0x08000000, 0x10000000, 0x20000000, 0x40000000, 0x80000000,
+// The value of the bit that is bit i of a word which is kept k + 1 rounds in, at place i of row k: five rows, one for each arrangement.
+const PLACES: [[u32; 32]; 5] = [
+    [
+        0x00000008, 0x00000080, 0x00000800, 0x00008000, 0x00080000, 0x00800000, 0x08000000,
+        0x80000000, 0x00000004, 0x00000040, 0x00000400, 0x00004000, 0x00040000, 0x00400000,
+        0x04000000, 0x40000000, 0x00000002, 0x00000020, 0x00000200, 0x00002000, 0x00020000,
+        0x00200000, 0x02000000, 0x20000000, 0x00000001, 0x00000010, 0x00000100, 0x00001000,
+        0x00010000, 0x00100000, 0x01000000, 0x10000000,
+    ],
+    [
+        0x00008000, 0x80000000, 0x00004000, 0x40000000, 0x00002000, 0x20000000, 0x00001000,
+        0x10000000, 0x00000800, 0x08000000, 0x00000400, 0x04000000, 0x00000200, 0x02000000,
+        0x00000100, 0x01000000, 0x00000080, 0x00800000, 0x00000040, 0x00400000, 0x00000020,
+        0x00200000, 0x00000010, 0x00100000, 0x00000008, 0x00080000, 0x00000004, 0x00040000,
+        0x00000002, 0x00020000, 0x00000001, 0x00010000,
+    ],
+    [
+        0x40000000, 0x10000000, 0x04000000, 0x01000000, 0x00400000, 0x00100000, 0x00040000,
+        0x00010000, 0x00004000, 0x00001000, 0x00000400, 0x00000100, 0x00000040, 0x00000010,
+        0x00000004, 0x00000001, 0x80000000, 0x20000000, 0x08000000, 0x02000000, 0x00800000,
+        0x00200000, 0x00080000, 0x00020000, 0x00008000, 0x00002000, 0x00000800, 0x00000200,
+        0x00000080, 0x00000020, 0x00000008, 0x00000002,
+    ],
+    [
+        0x01000000, 0x00010000, 0x00000100, 0x00000001, 0x02000000, 0x00020000, 0x00000200,
+        0x00000002, 0x04000000, 0x00040000, 0x00000400, 0x00000004, 0x08000000, 0x00080000,
+        0x00000800, 0x00000008, 0x10000000, 0x00100000, 0x00001000, 0x00000010, 0x20000000,
+        0x00200000, 0x00002000, 0x00000020, 0x40000000, 0x00400000, 0x00004000, 0x00000040,
+        0x80000000, 0x00800000, 0x00008000, 0x00000080,
+    ],
+    [
+        0x00000001, 0x00000002, 0x00000004, 0x00000008, 0x00000010, 0x00000020, 0x00000040,
+        0x00000080, 0x00000100, 0x00000200, 0x00000400, 0x00000800, 0x00001000, 0x00002000,
+        0x00004000, 0x00008000, 0x00010000, 0x00020000, 0x00040000, 0x00080000, 0x00100000,
+        0x00200000, 0x00400000, 0x00800000, 0x01000000, 0x02000000, 0x04000000, 0x08000000,
+        0x10000000, 0x20000000, 0x40000000, 0x80000000,
+    ],
 ];
 
-fn masks_at(word: u32, places: &[u32], out: &mut [u64])
-    requires { (length places.now ≡ 32) × (length out.old ≡ 32) }
+// Stays: an index into the places, since after an `iter_mut` in a `zip` a proof knows no element; with `map` and a copy, 1,024 bytes took three times as long.
+fn masks_at(word: u32, places: &[u32; 32], out: &mut [u64])
+    requires { length out.old ≡ 32 }
     ensures { MasksBy word places.now out.new }
 {
-    for i in 0..32 {
-        let m = mask(word, places[i]);
-        out[i] = m;
+    for (i, m) in out.iter_mut().enumerate() {
+        *m = mask(word, places[i]);
     }
 }
 
 // Words 2r and 2r + 1 are those of round r + 1.
-fn fill_masks(rkey: &[u32], places: &[u32], masks: &mut [u64])
-    requires rkey_len { (length rkey.now ≡ 80) × (length places.now ≡ 160) × (length masks.old ≡ 2560) }
-    requires by_index { (m : ℕ) → m < 160 → get_or places.now m 0 ≡ 2 ^ nibble_at (4 - m / 32) (m % 32) }
+fn fill_masks(rkey: &[u32; 80], places: &[[u32; 32]; 5], masks: &mut [u64; 2560])
+    requires { (m : ℕ) → m < 160 → get_or (get_or places.now (m / 32) []) (m % 32) 0 ≡ 2 ^ nibble_at (4 - m / 32) (m % 32) }
     ensures { masks.new ≡ masks_of rkey.now }
 {
-    for r in 0..80 {
-        let p = 32 * (r / 2 % 5);
-        let q = p + 32;
+    for (r, word) in rkey.iter().enumerate() {
         let a = 32 * r;
         let e = a + 32;
-        masks_at(rkey[r], &places[p..q], &mut masks[a..e]);
+        masks_at(*word, &places[r / 2 % 5], &mut masks[a..e]);
     }
 }
 
-fn key_masks(rkey: &[u32], masks: &mut [u64])
-    requires { (length rkey.now ≡ 80) × (length masks.old ≡ 2560) }
+fn key_masks(rkey: &[u32; 80], masks: &mut [u64; 2560])
     ensures { masks.new ≡ masks_of rkey.now }
 {
-    let table = PLACES;
-    fill_masks(rkey, &table, masks);
+    fill_masks(rkey, &PLACES, masks);
 }
 
 // ---- sixty-four blocks
 
-fn sixty_four(order: u32, masks: &[u64], input: &[u8], output: &mut [u8], back: bool)
-    requires { (length masks.now ≡ 2560) × (length input.now ≡ 1024) × (length output.old ≡ 1024) }
+// Stays: the order's number, which `to_slices`, `from_slices` and `groups` take.
+fn sixty_four(order: u32, masks: &[u64; 2560], input: &[u8], output: &mut [u8], back: bool)
+    requires { (length input.now ≡ 1024) × (length output.old ≡ 1024) }
     ensures { output.new ≡ by_masks order back masks.now input.now }
 {
     let mut x = [0u64; 128];
@@ -379,36 +362,25 @@ fn sixty_four(order: u32, masks: &[u64], input: &[u8], output: &mut [u8], back: 
 }
 
 // Groups of sixty-four blocks; the masks are made once for all of them.
-fn wide_groups(order: u32, rkey: &[u32], input: &[u8], output: &mut [u8], back: bool)
-    requires rkey_len { length rkey.now ≡ 80 }
+fn wide_groups(order: u32, rkey: &[u32; 80], input: &[u8], output: &mut [u8], back: bool)
     requires input_len { length input.now % 1024 ≡ 0 }
     requires output_len { length output.old ≡ length input.now }
     ensures { output.new ≡ all_of 16 (seen order (rounds_all back (pairs_from 0 rkey.now))) input.now }
 {
     let mut masks = [0u64; 2560];
     key_masks(rkey, &mut masks);
-    let mut a: usize = 0;
-    while a < input.len() {
+    // Stays: an index, since after a write through `chunks_exact_mut` a proof knows no element of the output.
+    for n in 0..input.len() / 1024 {
+        let a = 1024 * n;
         let e = a + 1024;
         sixty_four(order, &masks, &input[a..e], &mut output[a..e], back);
-        a = e;
     }
 }
 
 // ---- four blocks and more
 
-// Where the lanes begin after the groups of sixty-four, which end at m: there, or 64 bytes before the end where fewer are left.
-fn lanes_from(n: usize, m: usize) -> usize
-    requires { (n % 16 ≡ 0) × (m % 16 ≡ 0) × (64 ≤ n) × (m ≤ n) }
-    ensures { (result % 16 ≡ 0) × (result ≤ m) × (result + 64 ≤ n) }
-{
-    if n - m < 64 {
-        return n - 64;
-    }
-    m
-}
-
 // What `eight::groups` does, to the same promise: sixty-four blocks at once while there are as many, and then the lanes.
+// The lanes begin after the groups of sixty-four, or 64 bytes before the end where fewer are left.
 pub fn all_groups(order: u32, rkey: &[u32], input: &[u8], output: &mut [u8], back: bool)
     ensures { output.new ≡ cond (in_groups order (length rkey.now) (length input.now) (length output.old)) (all_of 16 (seen order (rounds_all back (pairs_from 0 rkey.now))) input.now) output.old }
 {
@@ -419,11 +391,13 @@ pub fn all_groups(order: u32, rkey: &[u32], input: &[u8], output: &mut [u8], bac
     if !in_groups(order, rkey.len(), input.len(), output.len()) {
         return;
     }
-    let m = input.len() - input.len() % 1024;
-    wide_groups(order, rkey, &input[0..m], &mut output[0..m], back);
-    if m == input.len() {
+    let Some(words) = rkey.as_array::<80>() else {
         return;
+    };
+    let m = input.len() - input.len() % 1024;
+    wide_groups(order, words, &input[0..m], &mut output[0..m], back);
+    if m < input.len() {
+        let e = m.min(input.len() - 64);
+        groups(order, rkey, &input[e..], &mut output[e..], back);
     }
-    let e = lanes_from(input.len(), m);
-    groups(order, rkey, &input[e..], &mut output[e..], back);
 }

@@ -2,7 +2,7 @@
 use mathlib.Core.Path.{◌≡◌, refl, ap}
 use mathlib.Core.Bool.{Bool, true, false, cond}
 use mathlib.Core.List.{List, [], ◌∷◌, ◌++◌}
-use Prim.Native.Nat.{ℕ, zero, suc, ◌+◌, ◌-◌, ◌/◌, ◌%◌, ◌≤◌, ◌<◌}
+use Prim.Native.Nat.{ℕ, zero, suc, ◌+◌, ◌/◌, ◌%◌, ◌≤◌, ◌<◌}
 use native.Mathlib.Nat.{not-suc-le-zero}
 use native.Mathlib.Omega.{arith}
 use lib.Dec.{ltb}
@@ -11,10 +11,6 @@ use borrow.Author.Tests.{ltb-false, lt-ltb, le-ltb}
 use Rattle.bits.proofs.Computed.{agree}
 use Rattle.text.specs.Hex.{hex_digits, place_of, value_of, hex_of}
 use Rattle.text.specs.Decimal.{last_digits, decimal_of}
-
--- the digits are two runs of bytes
-pub digit_is : (d : ℕ) → d < 16 → cond (ltb d 10) (48 + d) (d - 10 + 97) ≡ get_or hex_digits d 0
-digit_is = agree 16 (λ d. cond (ltb d 10) (48 + d) (d - 10 + 97)) (λ d. get_or hex_digits d 0) tt
 
 -- a digit written and read
 pub value-digit : (d : ℕ) → d < 16 → value_of (get_or hex_digits d 0) ≡ d

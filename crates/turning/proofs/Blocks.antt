@@ -1,16 +1,15 @@
 -- Blocks in lanes: what is loaded stands in its lane as the order reads it, and what is saved are the bytes that the order writes.
 use mathlib.Core.Path.{◌≡◌, sym, ap, ap₂, ◌∙◌}
 use mathlib.Core.List.{List, [], ◌∷◌, ◌++◌, append-nil}
-use mathlib.Core.Bool.{true}
-use Prim.Native.Nat.{ℕ, zero, suc, ◌+◌, ◌-◌, ◌*◌, ◌/◌, ◌%◌, ◌^◌, ◌≤◌, ◌<◌}
+use mathlib.Core.Bool.{Bool, true, false, ◌&&◌, and-false}
+use Prim.Native.Nat.{ℕ, zero, suc, ◌+◌, ◌-◌, ◌*◌, ◌/◌, ◌%◌, ◌^◌, ◌≤◌, ◌<◌, min}
 use native.Mathlib.Nat.{le_of_eq}
 use native.Mathlib.Omega.{arith}
 use lib.Dec.{T, eqb, ltb, lit<}
-use lib.ListN.{length, take, drop, get_or, length-take, length-drop, drop_of_length-le}
+use lib.ListN.{length, take, drop, get_or, length-take, length-drop, length-append, drop_of_length-le}
 use lib.Seq.{take_all, get_or-take, get_or-drop, take_at, drop_at, drop-drop}
-use borrow.Author.Tests.{eqb-true}
-use borrow.Rule.Slice.PartMut.{put_mid, post_of}
-use Rattle.bits.proofs.Truth.{both}
+use borrow.Author.Tests.{eq-eqb, ne_eqb}
+use borrow.Rule.Slice.PartMut.{put_mid}
 use Rattle.bits.specs.Digit.{digit, bit, of_bits}
 use Rattle.bits.proofs.Digits.{digit_lt}
 use Rattle.bits.proofs.Bits.{bit-digit, bit_ext, bit_of_bits, of_bits_bit, of_bits_cong, of_bits_lt}
@@ -162,11 +161,15 @@ module _ (order : ℕ) (x y z : List ℕ) (placed : Placed (λ i. outward_in ord
   saves out e = e ∙ joined_cong 64 (λ b. to_bytes 8 (get_or z (b + 64) 0) ++ to_bytes 8 (get_or z b 0)) (λ b. write_in order (lane x b)) block_saved
 
 -- eight bytes and then eight, put into a block
-pub laid : (a b block x y : List ℕ) → length a ≡ 8 → length block ≡ 16 → x ≡ a → y ≡ b → put_mid 8 8 (x ++ post_of 0 8 block) y ≡ a ++ b
+pub laid : (a b block x y : List ℕ) → length a ≡ 8 → length block ≡ 16 → x ≡ a → y ≡ b → put_mid 8 (length (x ++ drop 8 block) - 8) (x ++ drop 8 block) y ≡ a ++ b
 laid a b block x y la lb ex ey =
-    ap₂ (λ (f e : List ℕ). put_mid 8 8 (f ++ post_of 0 8 block) e) ex ey
+    ap₂ (λ (f e : List ℕ). put_mid 8 (length (f ++ drop 8 block) - 8) (f ++ drop 8 block) e) ex ey
+    ∙ ap (λ (n : ℕ). put_mid 8 n (a ++ drop 8 block) b) eight
     ∙ ap₂ (λ (f e : List ℕ). f ++ (b ++ e)) (take_at a (drop 8 block) 8 la) (ap (drop 8) (drop_at a (drop 8 block) 8 la) ∙ drop-drop 8 8 block ∙ drop_of_length-le block (le_of_eq lb))
     ∙ ap (λ (e : List ℕ). a ++ e) (append-nil b)
+  where
+    eight : length (a ++ drop 8 block) - 8 ≡ 8
+    eight = simp (length-append, length-drop) (omega arith)
 
 -- block b was put, and then all are
 pub block-put : (g : ℕ → List ℕ) (out new rest : List ℕ) (b : ℕ) → 16 * b ≤ length out → length new ≡ 16 → take (16 * b) out ≡ joined b g → new ≡ g b
@@ -181,7 +184,20 @@ all_blocks g out b e len done = sym (take_all (16 * b) out (omega arith)) ∙ do
 
 -- ---- lengths
 
-pub whole_is : (bytes words : ℕ) → whole bytes words ≡ true → (bytes ≡ 1024) × (words ≡ 128)
-whole_is bytes words e =
-    let t : (eqb bytes 1024 ≡ true) × (eqb words 128 ≡ true) = both (eqb bytes 1024) (eqb words 128) e in
-    (eqb-true bytes 1024 t.0, eqb-true words 128 t.1)
+pub is_whole : (bytes words : ℕ) → bytes ≡ 1024 → words ≡ 128 → whole bytes words ≡ true
+is_whole bytes words e f = simp (eq-eqb bytes 1024 e, eq-eqb words 128 f)
+
+pub other_bytes : (bytes words : ℕ) → (bytes ≡ 1024 → ⊥) → whole bytes words ≡ false
+other_bytes bytes words n = simp (ne_eqb bytes 1024 n)
+
+pub other_words : (bytes words : ℕ) → (words ≡ 128 → ⊥) → whole bytes words ≡ false
+other_words bytes words n = ap (λ (t : Bool). eqb bytes 1024 && t) (ne_eqb words 128 n) ∙ and-false (eqb bytes 1024)
+
+-- every number above 0 is seen as 1
+pub read_as : (n order : ℕ) → n ≡ min order 1 → (block : List ℕ) → read_in n block ≡ read_in order block
+read_as n zero e block = let same : n ≡ 0 = omega arith in ap (λ (m : ℕ). read_in m block) same
+read_as n (suc o) e block = let same : n ≡ 1 = omega arith in ap (λ (m : ℕ). read_in m block) same
+
+pub write_as : (n order : ℕ) → n ≡ min order 1 → (x : ℕ) → write_in n x ≡ write_in order x
+write_as n zero e x = let same : n ≡ 0 = omega arith in ap (λ (m : ℕ). write_in m x) same
+write_as n (suc o) e x = let same : n ≡ 1 = omega arith in ap (λ (m : ℕ). write_in m x) same

@@ -1,6 +1,6 @@
 -- One exchange between two words, a level of four of them on eight words, and three levels: where the bit at a place comes from.
-use mathlib.Core.Path.{◌≡◌, refl, sym, ap, ap₂, ◌∙◌}
-use mathlib.Core.Bool.{Bool, true, false, not, cond, ◌&&◌}
+use mathlib.Core.Path.{subst, ◌≡◌, refl, sym, ap, ap₂, ◌∙◌}
+use mathlib.Core.Bool.{Bool, true, false, not, cond, ◌&&◌, ◌||◌}
 use mathlib.Core.List.{[], ◌∷◌}
 use Prim.Native.Nat.{ℕ, zero, suc, ◌+◌, ◌-◌, ◌*◌, ◌/◌, ◌%◌, ◌^◌, ◌≤◌, ◌<◌}
 use native.Mathlib.Nat.{mul-add-div_right, div-eq_of_lt, one-mul, mul-zero, mul-one, add-zero, sub-zero}
@@ -9,13 +9,15 @@ use native.Mathlib.Omega.{arith}
 use lib.Bits.{bit_and, bit_xor}
 use lib.Dec.{T, eqb, eqb→eq, ltb, ltb→lt}
 use lib.ListN.{get_or}
-use borrow.Author.Tests.{le-leb, lt-leb}
-use Rattle.bits.specs.Digit.{bit, ◌⊕◌}
+use borrow.Author.Tests.{le-leb, lt-leb, eqb-true}
+use Rattle.std.proofs.Common.{IsTrue, rules}
+use Rattle.std.proofs.lemmas.Bool.Decides.{nat_tests}
+use Rattle.bits.specs.Digit.{bit, of_bits, number, ◌⊕◌}
 use Rattle.bits.proofs.Bits.{bit_of_bits, bit_shr, bit_shl_cut, bit-and, bit-xor, ⊕-false}
 use Rattle.bits.proofs.Computed.{below, at, and_left, and_right}
 use Rattle.turning.specs.declared.Eight.{Eight}
 use Rattle.turning.specs.declared.Two.{Two}
-use Rattle.turning.specs.Inner.{lower, Crossed, word_of, EightTurned}
+use Rattle.turning.specs.Inner.{is_level, is_step, lower, Crossed, word_of, EightTurned}
 
 pub two : (P : ℕ → Type 0) → P 0 → P 1 → (d : ℕ) → d < 2 → P d
 two P a b zero h = a
@@ -32,6 +34,32 @@ eight P a b c d e f g h (suc (suc (suc (suc (suc zero))))) l = f
 eight P a b c d e f g h (suc (suc (suc (suc (suc (suc zero)))))) l = g
 eight P a b c d e f g h (suc (suc (suc (suc (suc (suc (suc zero))))))) l = h
 eight P a b c d e f g h (suc (suc (suc (suc (suc (suc (suc (suc k)))))))) l = absurd (omega arith)
+
+-- ---- levels and steps
+
+-- the mask of a level, as the code has it
+abbrev pub mask_of : ℕ → ℕ
+mask_of n = 18446744073709551615 / (1 * 2 ^ n % 18446744073709551616 + 1)
+
+pub level-small : (n : ℕ) → IsTrue (is_level n) → (0 < n) × (n < 33)
+level-small n t = grind (arith, nat_tests)
+
+pub mask_is : (n : ℕ) → IsTrue (is_level n) → mask_of n ≡ lower n
+unfolding lower of_bits number
+mask_is n t = eqb→eq (mask_of n) (lower n) (passed (is_level n) (eqb (mask_of n) (lower n)) t (at 33 (λ m. not (is_level m) || eqb (mask_of m) (lower m)) tt n (level-small n t).1))
+  where
+    passed : (b c : Bool) → IsTrue b → T (not b || c) → T c
+    passed true c e t = t
+    passed false c e t = search rules
+
+-- what holds of both steps holds of a step
+pub steps : (P : ℕ → Type 0) → P 8 → P 1 → (s : ℕ) → IsTrue (is_step s) → P s
+steps P a b s t = go (eqb s 8) (eqb s 1) refl refl t
+  where
+    go : (u v : Bool) → eqb s 8 ≡ u → eqb s 1 ≡ v → IsTrue (u || v) → P s
+    go true v e f h = subst P (sym (eqb-true s 8 e)) a
+    go false true e f h = subst P (sym (eqb-true s 1 f)) b
+    go false false e f h = search rules
 
 -- ---- one exchange
 

@@ -1,15 +1,23 @@
 -- Words filled upward, the two passes over 128 words and what they make together, and words that come from other places.
 use mathlib.Core.Path.{◌≡◌, refl, sym, ap, ap₂, ◌∙◌}
-use mathlib.Core.List.{List}
+use mathlib.Core.List.{List, []}
 use Prim.Native.Nat.{ℕ, zero, suc, ◌+◌, ◌-◌, ◌*◌, ◌/◌, ◌%◌, ◌<◌}
 use native.Mathlib.Omega.{arith}
 use lib.Dec.{lit<}
-use lib.ListN.{length, get_or, set, length-set}
+use lib.ListN.{length, get_or, set, length-set, take, drop, length-take, length-drop}
+use lib.Seq.{drop-drop, get_or-take, get_or-drop}
+use native.Mathlib.Nat.{mul-zero, mul-suc}
+use Rattle.std.proofs.Common.{IsTrue}
+use Rattle.std.specs.Int.{w64, from_be_bytes}
+use Rattle.std.specs.Simd.{first_chunks}
 use Rattle.bits.specs.Digit.{bit}
 use Rattle.bits.proofs.Fills.{Fills, fills_up, fills_is, fills_none}
+use Rattle.published.specs.Bytes.{Bytes}
+use Rattle.published.proofs.Reading.{bit-from_bytes, bytes_take, bytes_drop}
+use Rattle.packing.proofs.Small.{reads-eight}
 use Rattle.turning.specs.declared.Eight.{Eight}
-use Rattle.turning.specs.Inner.{word_of, EightTurned, Passed, byte_from, byte_to, bit_from, bit_to, eight_at, eight_put, Turned, Halves, Placed, inward_in, outward_in, pairwise}
-use Rattle.turning.proofs.Crossing.{eight}
+use Rattle.turning.specs.Inner.{word_of, EightTurned, Passed, is_step, from_in, byte_from, byte_to, bit_from, bit_to, eight_at, eight_put, Turned, Halves, Placed, inward_in, outward_in, pairwise}
+use Rattle.turning.proofs.Crossing.{eight, steps}
 
 -- ---- 128 words, the first k of them right
 
@@ -72,11 +80,8 @@ module _ (from : ℕ → ℕ) (to : ℕ → ℕ → ℕ) (small : (p : ℕ) → 
   pub passed : (x y : List ℕ) (k : ℕ) → k ≡ 128 → Up (PassedAt from to x) k y → Passed from to x y
   passed x y k e u = record { turned = λ r p hr hp. u.1.there r (omega arith) p hp }
 
-pub byte_small : (p : ℕ) → p < 64 → byte_from p < 8
-byte_small p h = omega arith
-
-pub bit-small : (p : ℕ) → p < 64 → bit_from p < 8
-bit-small p h = omega arith
+pub from-small : (s : ℕ) → IsTrue (is_step s) → (p : ℕ) → p < 64 → from_in s p < 8
+from-small = steps (λ s. (p : ℕ) → p < 64 → from_in s p < 8) (λ p h. omega arith) (λ p h. omega arith)
 
 -- ---- both passes
 
@@ -101,20 +106,31 @@ both_passes x y z wide narrow =
 abbrev pub HalfAt : List ℕ → ℕ → ℕ → Type 0
 HalfAt bytes r w = (p : ℕ) → p < 64 → bit w p ≡ bit (get_or bytes (16 * (r / 2) + 8 * (1 - r % 2) + (7 - p / 8)) 0) (p % 8)
 
-abbrev ReadAt : List ℕ → ℕ → ℕ → Type 0
-ReadAt bytes at w = (p : ℕ) → p < 64 → bit w p ≡ bit (get_or bytes (at + (7 - p / 8)) 0) (p % 8)
-
-pub block_more : (bytes x : List ℕ) (b low high : ℕ) → b < 64 → ReadAt bytes (16 * b + 8) low → ReadAt bytes (16 * b) high → Up (HalfAt bytes) (2 * b) x
-    → Up (HalfAt bytes) (2 * (b + 1)) (set (set x (2 * b) low) (2 * b + 1) high)
-block_more bytes x b low high h l u up =
-    up_more (2 * b + 1) high (2 * (b + 1)) refl (omega arith) (omega arith) (λ p hp. u p hp ∙ ap (λ (a : ℕ). bit (get_or bytes (a + (7 - p / 8)) 0) (p % 8)) upper)
-    (up_more (2 * b) low (2 * b + 1) refl (omega arith) (omega arith) (λ p hp. l p hp ∙ ap (λ (a : ℕ). bit (get_or bytes (a + (7 - p / 8)) 0) (p % 8)) lower) up)
+-- the chunks of a list
+chunk_at : (n m k : ℕ) (xs : List ℕ) → k < m → get_or (first_chunks n m xs) k [] ≡ take n (drop (n * k) xs)
+chunk_at n zero k xs h = absurd (omega arith)
+chunk_at n (suc m) zero xs h = rw mul-zero refl
+chunk_at n (suc m) (suc k) xs h =
+    chunk_at n m k (drop n xs) (omega arith) ∙ ap (take n) (drop-drop (n * k) n xs ∙ ap (λ (j : ℕ). drop j xs) next)
   where
-    upper : 16 * b ≡ 16 * ((2 * b + 1) / 2) + 8 * (1 - (2 * b + 1) % 2)
-    upper = omega arith
+    next : n + n * k ≡ n * suc k
+    next = sym (rw mul-suc (omega arith))
 
-    lower : 16 * b + 8 ≡ 16 * (2 * b / 2) + 8 * (1 - 2 * b % 2)
-    lower = omega arith
+-- eight bytes read as a half
+pub half_read : (bytes : List ℕ) → length bytes ≡ 1024 → Bytes bytes → (r : ℕ) → r < 128
+    → HalfAt bytes r (from_be_bytes w64 (get_or (first_chunks 8 (length bytes / 8) bytes) (r / 2 * 2 + (1 - r % 2)) []))
+half_read bytes len all r h p hp =
+    let k : ℕ = r / 2 * 2 + (1 - r % 2) in
+    let bs : List ℕ = take 8 (drop (8 * k) bytes) in
+    let size : length bs ≡ 8 = simp (length-take, length-drop) (omega arith) in
+    let here : get_or (first_chunks 8 (length bytes / 8) bytes) k [] ≡ bs = chunk_at 8 (length bytes / 8) k bytes (omega arith) in
+    let place : 8 * k + (7 - p / 8) ≡ 16 * (r / 2) + 8 * (1 - r % 2) + (7 - p / 8) = omega arith in
+    ap (λ (l : List ℕ). bit (from_be_bytes w64 l) p) here
+    ∙ ap (λ (x : ℕ). bit x p) (reads-eight bs size)
+    ∙ bit-from_bytes bs (bytes_take 8 (drop (8 * k) bytes) (bytes_drop (8 * k) bytes all)) p (omega arith)
+    ∙ ap (λ (n : ℕ). bit (get_or bs (n - 1 - p / 8) 0) (p % 8)) size
+    ∙ ap (λ (x : ℕ). bit x (p % 8)) (get_or-take 8 (drop (8 * k) bytes) (7 - p / 8) 0 (omega arith) ∙ get_or-drop (8 * k) bytes (7 - p / 8) 0)
+    ∙ ap (λ (n : ℕ). bit (get_or bytes n 0) (p % 8)) place
 
 pub all_halves : (bytes x : List ℕ) (k : ℕ) → k ≡ 128 → Up (HalfAt bytes) k x → Halves bytes x
 all_halves bytes x k e u = record { half = λ r p hr hp. u.1.there r (omega arith) p hp }

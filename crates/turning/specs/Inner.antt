@@ -1,8 +1,12 @@
 -- Inner: what the steps of a transposition do to the place of a bit, the word that it is in and its place there.
-use Rattle.std.specs.Prelude.{◌≡◌, List, [], ◌∷◌, ℕ, zero, suc, ◌+◌, ◌-◌, ◌*◌, ◌/◌, ◌%◌, ◌<◌, eqb, get_or, set}
+use Rattle.std.specs.Prelude.{◌≡◌, Bool, cond, ◌||◌, List, [], ◌∷◌, ℕ, zero, suc, ◌+◌, ◌-◌, ◌*◌, ◌/◌, ◌%◌, ◌<◌, eqb, get_or, set}
 use Rattle.bits.specs.Digit.{bit, of_bits}
 use Rattle.turning.specs.declared.Eight.{Eight}
 use Rattle.turning.specs.declared.Two.{Two}
+
+-- how many places apart the bits of a level are
+abbrev pub is_level : ℕ → Bool
+is_level n = eqb n 1 || eqb n 2 || eqb n 4 || eqb n 8 || eqb n 16 || eqb n 32
 
 -- the places p for which p / n is even
 unfoldable pub lower : ℕ → ℕ
@@ -37,6 +41,16 @@ bit_from p = p % 8
 
 abbrev pub bit_to : ℕ → ℕ → ℕ
 bit_to k p = 8 * (p / 8) + k
+
+-- by steps of 8 places bytes are turned, and by steps of 1 bits
+abbrev pub is_step : ℕ → Bool
+is_step s = eqb s 8 || eqb s 1
+
+abbrev pub from_in : (step : ℕ) → ℕ → ℕ
+from_in s = cond (eqb s 1) bit_from byte_from
+
+abbrev pub to_in : (step : ℕ) → ℕ → ℕ → ℕ
+to_in s = cond (eqb s 1) bit_to byte_to
 
 -- eight words sixteen apart, and eight words put side by side
 abbrev pub eight_at : List ℕ → ℕ → Eight

@@ -1,14 +1,11 @@
 -- `bench::turn` answers as said: its number first, and if that is 0 the turns made.
+use mathlib.Core.Path.{refl}
+use Rattle.bench_orders.proofs.Passing.{not_done}
 use Rattle.bench.proofs.Answered.{turn-refused, turn-done}
 use Rattle.bench.proofs.turn.Goals as goal
 
-pub returns-then-code-ne-DONE : goal.returns-then-code-ne-DONE
-returns-then-code-ne-DONE c =
-    let a = c.args in
-    turn-refused a.b c.sound.ensures a.asked c.turn_code-code.ensures c.if-code-ne-DONE.true
+pub returns-in-Err : goal.returns-in-Err
+returns-in-Err c = turn-refused c.args.b c.args.asked c.sound.ensures c.in-Err.ensures (not_done c.in-Err.refusal)
 
 pub returns : goal.returns
-returns c =
-    let a = c.args in
-    turn-done a.b c.sound.ensures a.asked c.turn_code-code.ensures c.if-code-ne-DONE.false
-    c.turns-many.ensures.0 c.turns-many.ensures.1
+returns c = turn-done c.args.b c.args.asked c.sound.ensures c.in_default.ensures refl c.turns-many.ensures.0 c.turns-many.ensures.1

@@ -1,30 +1,29 @@
 -- `bench_lent::take` gives a lane's block, and empties the lane.
-use mathlib.Core.Path.{◌≡◌, ap, ◌∙◌}
-use mathlib.Core.List.{List}
-use lib.ListN.{set}
-use Rattle.lane.specs.declared.Lane.{Lane}
-use Rattle.bench_turns.specs.Turning.{lane_at}
-use Rattle.bench_lent.proofs.Answering.{take_in, take_no, take_yes}
+use mathlib.Core.Path.{◌≡◌, refl, ◌∙◌}
+use Rattle.std.proofs.Common.{rules}
+use Rattle.answers.specs.Refusals.{number, number_of}
+use Rattle.bench_orders.proofs.Passing.{not_done}
+use Rattle.bench.proofs.Answered.{take-refused, take_inside, take_done}
+use Rattle.bench_lent.specs.Lent.{bench_of}
+use Rattle.bench_lent.proofs.Answering.{leaves, stored}
 use Rattle.bench_lent.proofs.take.Goals as goal
 
-pub returns-then-code-ne-DONE : goal.returns-then-code-ne-DONE
-returns-then-code-ne-DONE c =
+pub returns-in_err-take_code : goal.returns-in_err-take_code
+returns-in_err-take_code c =
     let a = c.args in
-    let k = c.look-s in
-    let no = take_no a.lanes.now a.last a.lane a.owner k.result k.ensures.0 c.take_code-code.result a.out.now c.take_code-code.ensures c.if-code-ne-DONE.true in
-    ((no.0.0, k.ensures.1 ∙ no.0.1), no.1)
+    let told : number c.from_residual.result ≡ number_of c.in_err-take_code.field-0.0 = search rules in
+    let p = take-refused (bench_of a.lanes.now a.last) a.lane a.owner c.look-seen.ensures a.out.now c.in_err-take_code.ensures (not_done _) in
+    let no = leaves p.0 in
+    ((told ∙ no.0, no.1), p.1)
 
-pub at-l-requires : goal.at-l-requires
-at-l-requires c =
-    let a = c.args in
-    let k = c.look-s in
-    rw k.ensures.1 (take_in a.lanes.now a.last a.lane a.owner k.result k.ensures.0 c.take_code-code.result a.out.now c.take_code-code.ensures c.if-code-ne-DONE.false)
+pub slice_copy_out-yielded : goal.slice_copy_out-yielded
+slice_copy_out-yielded c = let a = c.args in take_inside (bench_of a.lanes.now a.last) a.lane a.owner c.look-seen.ensures a.out.now c.in_ok-take_code.ensures refl
+
+pub bounds-lanes-i : goal.bounds-lanes-i
+bounds-lanes-i c = let a = c.args in take_inside (bench_of a.lanes.now a.last) a.lane a.owner c.look-seen.ensures a.out.now c.in_ok-take_code.ensures refl
 
 pub returns : goal.returns
 returns c =
     let a = c.args in
-    let k = c.look-s in
-    let same : c.at-l.new.lanes ≡ a.lanes.now = c.at-l.ensures.1 ∙ k.ensures.1 in
-    take_yes a.lanes.now a.last a.lane a.owner k.result k.ensures.0 c.take_code-code.result a.out.now c.take_code-code.ensures c.if-code-ne-DONE.false
-    (c.at-l.ensures.0 ∙ ap (λ (us : List Lane). lane_at us a.lane) k.ensures.1) c.yielded.ensures c.idle_lane.ensures
-    (c.put.ensures ∙ ap (λ (us : List Lane). set us a.lane c.idle_lane.result) same)
+    let p = take_done (bench_of a.lanes.now a.last) a.lane a.owner c.look-seen.ensures a.out.now c.in_ok-take_code.ensures refl (stored a.lanes.now a.last a.lane c.idle_lane.ensures) c.yielded.ensures in
+    (leaves p.0, p.1)

@@ -1,9 +1,10 @@
--- `bench_lent::turn`: what is known of a call for turns as far as it has come, `Way`.
-use Rattle.bench_lent.proofs.UnderWay.{Way}
+-- `bench_lent::turn`: the turns that are left, made from here, give what all of them give from the start.
+use mathlib.Core.Path.{◌≡◌}
+use lib.ListN.{length}
+use Rattle.bench_orders.specs.Orders.{lane_count}
+use Rattle.bench_turns.proofs.Rest.{Rest}
+use Rattle.bench_lent.specs.Lent.{bench_of}
 use Rattle.bench_lent.proofs.turn.Given as goal
 
-abbrev pub invariant-loop-r : goal.invariant-loop-r
-invariant-loop-r l = Way l.fn.lanes l.last l.asked l.lanes l.r
-
-abbrev pub decreases-loop-r : goal.decreases-loop-r
-decreases-loop-r l = l.r.left
+abbrev pub invariant-loop-made : goal.invariant-loop-made
+invariant-loop-made l = (length l.lanes ≡ lane_count) × Rest l.asked (bench_of l.fn.lanes l.last) l.made (bench_of l.lanes l.latest)

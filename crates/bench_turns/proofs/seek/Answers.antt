@@ -1,36 +1,29 @@
 -- `bench_turns::seek` finds the first running lane in cyclic order: the lanes that are left to look at tell it, as none passed runs.
-use mathlib.Core.Path.{refl, sym, ap, ◌∙◌}
+use mathlib.Core.Path.{◌≡◌, sym, ◌∙◌}
+use mathlib.Core.Bool.{true}
+use Prim.Native.Nat.{◌-◌, ◌+◌}
 use native.Mathlib.Omega.{arith}
 use Rattle.bench_orders.specs.Orders.{lane_count}
-use Rattle.bench_turns.specs.Turning.{seek}
-use Rattle.bench_turns.proofs.Seeking.{after_lt, seek_here, seek_on, seek-over}
+use Rattle.bench_turns.specs.Turning.{seek, runs}
+use Rattle.bench_turns.proofs.Seeking.{runs_inside, seek_here, seek_on, seek-over}
 use Rattle.bench_turns.proofs.seek.Goals as goal
 
-pub loop-left-init : goal.loop-left-init
+pub returns-then-runs : goal.returns-then-runs
 unfolding lane_count
-loop-left-init c = (c.requires, omega arith, refl)
+returns-then-runs c =
+    let ls = c.args.lanes.now in
+    let p = c.loop-passed in
+    let here : runs ls p.i ≡ true = sym c.runs.ensures ∙ c.if-runs.true in
+    (sym (seek_here (lane_count - p._passed) ls p.i (omega arith) here) ∙ p.invariant, runs_inside ls p.i here)
 
-pub offset_bounds-lanes-i : goal.offset_bounds-lanes-i
+pub loop-passed-preserved : goal.loop-passed-preserved
 unfolding lane_count
-offset_bounds-lanes-i c = omega arith
-
-pub bounds-lanes-i : goal.bounds-lanes-i
-unfolding lane_count
-bounds-lanes-i c = omega arith
-
-pub returns-then-l-eq-RUNNING : goal.returns-then-l-eq-RUNNING
-returns-then-l-eq-RUNNING c =
-    sym (seek_here c.loop-left.left c.args.lanes c.loop-left.i c.loop-left-test.true c.if-l-eq-RUNNING.true) ∙ c.loop-left.invariant.2
-
-pub loop-left-preserved : goal.loop-left-preserved
-loop-left-preserved c = (
-  rw c.after-i.ensures (after_lt c.loop-left.i),
-  omega arith,
-  ap (seek _ c.args.lanes) c.after-i.ensures
-      ∙ sym (seek_on c.loop-left.left c.args.lanes c.loop-left.i c.loop-left-test.true c.if-l-eq-RUNNING.false) ∙ c.loop-left.invariant.2,
-)
+loop-passed-preserved c =
+    let ls = c.args.lanes.now in
+    let p = c.loop-passed in
+    let one_less : lane_count - (p._passed + 1) ≡ lane_count - p._passed - 1 = omega arith in
+    (λ i. seek (one_less i) ls (c.after-i.ensures i)) ∙ sym (seek_on (lane_count - p._passed) ls p.i (omega arith) (sym c.runs.ensures ∙ c.if-runs.false)) ∙ p.invariant
 
 pub returns : goal.returns
 unfolding lane_count
-returns c =
-    sym (seek-over c.loop-left.left c.args.lanes c.loop-left.i c.loop-left-test.false) ∙ c.loop-left.invariant.2
+returns c = let p = c.loop-passed in sym p.invariant ∙ seek-over (lane_count - p._passed) c.args.lanes.now p.i (omega arith)

@@ -15,9 +15,9 @@ returns-then-b-lt-LANES c =
     let long : length b.lanes ≡ lane_count = search unmapped in
     rw (eq-eqb (length b.lanes) lane_count long, lt-ltb b.last lane_count (omega arith)) c.all_sound.ensures
 
-pub returns : goal.returns
+pub returns-else-b-lt-LANES : goal.returns-else-b-lt-LANES
 unfolding lane_count sound_bench
-returns c =
+returns-else-b-lt-LANES c =
     let b = c.args.b in
     let long : length b.lanes ≡ lane_count = search unmapped in
     rw (eq-eqb (length b.lanes) lane_count long, le-ltb b.last lane_count (omega arith))

@@ -1,16 +1,17 @@
 -- `bundle_format::kinds_of`, edition by edition.
 use mathlib.Core.Path.{sym}
+use native.Mathlib.Omega.{arith}
 use Rattle.bundle_format.specs.Format.{kinds}
 use Rattle.bundle_format.proofs.Editions.{kinds-last}
 use Rattle.bundle_format.proofs.kinds_of.Goals as goal
 
-pub returns-then-edition-eq0 : goal.returns-then-edition-eq0
+pub returns-in-0 : goal.returns-in-0
 unfolding kinds
-returns-then-edition-eq0 c = rw c.if-edition-eq0.true
+returns-in-0 c = rw c.in-0.is
 
-pub returns-then-edition-eq1 : goal.returns-then-edition-eq1
+pub returns-in-1 : goal.returns-in-1
 unfolding kinds
-returns-then-edition-eq1 c = rw c.if-edition-eq1.true
+returns-in-1 c = rw c.in-1.is
 
-pub returns : goal.returns
-returns c = sym (kinds-last _ c.if-edition-eq0.false c.if-edition-eq1.false)
+pub returns-in_default : goal.returns-in_default
+returns-in_default c = sym (kinds-last c.args.edition (λ e. omega arith) (λ e. omega arith))

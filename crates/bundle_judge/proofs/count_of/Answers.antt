@@ -8,4 +8,4 @@ pub returns-then-b-lt4 : goal.returns-then-b-lt4
 returns-then-b-lt4 c = rw (lt-leb 4 _ c.if-b-lt4.true)
 
 pub returns : goal.returns
-returns c = c.number2.ensures.0 ∙ sym (count_in_lem _ c.if-b-lt4.false)
+returns c = c.from.ensures ∙ c.number2.ensures ∙ sym (count_in_lem _ c.if-b-lt4.false)

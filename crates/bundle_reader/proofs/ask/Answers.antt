@@ -1,28 +1,22 @@
--- `bundle_reader::ask`: its number first, and if that is 0 the id.
-use mathlib.Core.Path.{◌≡◌, sym, ap, ◌∙◌}
+-- `bundle_reader::ask`: the id, of what is not refused.
+use mathlib.Core.Path.{◌≡◌, refl, sym, ap, ◌∙◌}
 use mathlib.Core.List.{List}
 use Prim.Native.Nat.{ℕ}
 use native.Mathlib.Omega.{arith}
 use lib.ListN.{drop}
-use Rattle.answers.proofs.Outcome.{refuses, done}
-use Rattle.bundle_format.specs.Reader.{count_of, rows_from, tell_in}
-use Rattle.bundle_judge.proofs.Judging.{count_in_lem}
+use Rattle.std.specs.Prelude.{map}
+use Rattle.answers.proofs.Outcome.{done}
+use Rattle.bundle_format.specs.Reader.{row_of, rows_from, tell_in}
+use Rattle.bundle_judge.proofs.Cutting.{entries_rows}
 use Rattle.bundle_reader.proofs.Steps.{Room, room}
 use Rattle.bundle_reader.proofs.ask.Goals as goal
-
-pub returns-then-code-ne-DONE : goal.returns-then-code-ne-DONE
-returns-then-code-ne-DONE c = record { is = c.read_code-code.ensures; leaves = c.only.ensures ∙ (refuses c.read_code-code.ensures c.if-code-ne-DONE.true).leaves }
 
 pub returns : goal.returns
 returns c =
     let a = c.args in
     let b : List ℕ = a.bundle.now in
-    let r : Room b = room _ _ _ (sym c.read_code-code.ensures ∙ c.if-code-ne-DONE.false) in
-    let count : c.count_of-count.result ≡ count_of b = c.count_of-count.ensures ∙ count_in_lem b (omega (arith, r.least)) in
-    done c.read_code-code.ensures c.if-code-ne-DONE.false (c.tell_id.ensures ∙ ap (λ (n : ℕ). tell_in a.reader a.id (rows_from n (drop 8 b))) count)
-
-pub tell_id-requires : goal.tell_id-requires
-tell_id-requires c =
-    let b : List ℕ = c.args.bundle.now in
-    let r : Room b = room _ _ _ (sym c.read_code-code.ensures ∙ c.if-code-ne-DONE.false) in
-    omega (arith, r.table, c.count_of-count.ensures, count_in_lem b (omega (arith, r.least)))
+    let k = c.in_ok-count.ensures in
+    let r : Room b = room _ _ _ (sym k.is) in
+    let n : ℕ = c.in_ok-count.count in
+    let rows : map row_of c.table.result.now ≡ rows_from n (drop 8 b) = ap (map row_of) c.table.ensures ∙ entries_rows n b (omega (arith, r.table, k.count)) in
+    rw (← c.from-reader.ensures) (done k.is refl (c.tell_id.ensures ∙ ap (tell_in c.from-reader.result a.id) (rows ∙ ap (λ (m : ℕ). rows_from m (drop 8 b)) k.count)))

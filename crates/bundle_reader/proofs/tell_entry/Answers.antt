@@ -1,24 +1,17 @@
 -- `bundle_reader::tell_entry`: the entry at its place, or none.
-use mathlib.Core.Path.{sym, ap, ◌∙◌}
-use mathlib.Core.List.{List}
-use Prim.Native.Nat.{ℕ, ◌*◌}
-use native.Mathlib.Omega.{arith}
-use lib.ListN.{drop}
-use lib.Seq.{drop-drop}
-use Rattle.bundle_format.specs.Reader.{row_of, tell}
-use Rattle.bundle_judge.proofs.Judging.{row_in_lem}
-use Rattle.bundle_reader.proofs.Steps.{entry_none, entry_there}
+use mathlib.Core.Path.{◌≡◌, sym, ap, ◌∙◌}
+use mathlib.Core.List.{[]}
+use lib.ListN.{get_or}
+use Rattle.bundle_format.specs.Reader.{row_of}
+use Rattle.bundle_reader.proofs.Steps.{told_none, told_there}
 use Rattle.bundle_reader.proofs.tell_entry.Goals as goal
 
-pub returns-then-count-place : goal.returns-then-count-place
-returns-then-count-place c =
+pub returns-in-Some : goal.returns-in-Some
+returns-in-Some c =
     let a = c.args in
-    c.absent.ensures ∙ sym (entry_none a.reader a.count a.i (drop 8 a.b.now) c.if-count-place.true)
+    let found = c.in-Some.ensures.lookup in
+    let here : c.in-Some.entry.now ≡ get_or a.entries.now a.i [] = found.3.1 [] in
+    c.tell_row.ensures ∙ sym (told_there a.reader a.i a.entries.now c.row_of.result found.3.0 (c.row_of.ensures ∙ ap row_of here))
 
-pub returns : goal.returns
-returns c =
-    let a = c.args in
-    let b : List ℕ = a.b.now in
-    c.tell_row.ensures
-    ∙ ap (tell a.reader) (c.row_at.ensures ∙ row_in_lem _ b (omega arith) ∙ ap row_of (sym (drop-drop (12 * a.i) 8 b)))
-    ∙ sym (entry_there a.reader a.count a.i (drop 8 b) (omega arith))
+pub returns-in-None : goal.returns-in-None
+returns-in-None c = c.only.ensures ∙ sym (told_none c.args.reader c.args.i c.args.entries.now c.in-None.ensures.lookup.3)

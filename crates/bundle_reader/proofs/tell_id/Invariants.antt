@@ -1,12 +1,9 @@
--- `bundle_reader::tell_id`: none of the entries before place i has the id.
-use Prim.Native.Nat.{◌-◌, ◌≤◌}
+-- `bundle_reader::tell_id`: none of the entries before the one at hand has the id.
+use mathlib.Core.Path.{◌≡◌}
 use lib.ListN.{drop}
-use Rattle.bundle_format.specs.Reader.{rows_from, tell_in}
-use Rattle.bundle_judge.proofs.Cutting.{Left}
+use Rattle.std.specs.Prelude.{map}
+use Rattle.bundle_format.specs.Reader.{row_of, tell_in}
 use Rattle.bundle_reader.proofs.tell_id.Given as goal
 
-abbrev pub invariant-loop-i : goal.invariant-loop-i
-invariant-loop-i l = (l.i ≤ l.count) × Left l.b l.count (tell_in l.reader l.id (rows_from l.count (drop 8 l.b))) (tell_in l.reader l.id) l.i
-
-abbrev pub decreases-loop-i : goal.decreases-loop-i
-decreases-loop-i l = l.count - l.i
+abbrev pub invariant-loop-entry : goal.invariant-loop-entry
+invariant-loop-entry l = tell_in l.reader l.id (map row_of l.entries) ≡ tell_in l.reader l.id (map row_of (drop l.entry-index l.entries))

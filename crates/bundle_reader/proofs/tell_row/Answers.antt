@@ -9,4 +9,4 @@ returns-then-not-knows_kind c = rw (told-false c.knows_kind.ensures c.if-not-kno
 
 pub returns : goal.returns
 unfolding tell
-returns c = rw (told-true c.knows_kind.ensures c.if-not-knows_kind.false)
+returns c = rw (told-true c.knows_kind.ensures c.if-not-knows_kind.false, c.from.ensures)

@@ -1,35 +1,28 @@
--- `cmac::tag`: its number first, and if that is 0 the chaining block finished in the buffer.
-use mathlib.Core.Path.{◌≡◌, sym, ap, ◌∙◌}
+-- `cmac::tag`: the last block with its key into the chain, which is the tag.
+use borrow.Author.Rules.{rules}
+use mathlib.Core.Path.{◌≡◌, refl, sym, ap, ◌∙◌}
 use mathlib.Core.List.{List}
 use Prim.Native.Nat.{ℕ}
-use native.Mathlib.Omega.{arith}
-use lib.ListN.{length, take}
-use borrow.Author.Rules.{rules}
-use Rattle.answers.proofs.Outcome.{refuses, done}
+use lib.ListN.{length}
+use Rattle.answers.proofs.Outcome.{done}
 use Rattle.gift128.specs.Calls.{encrypted_by}
-use Rattle.cmac_parts.specs.Standard.{◌⊕◌, last_block, chained}
+use Rattle.cmac_parts.specs.Standard.{◌⊕◌, chained}
 use Rattle.cmac_parts.proofs.Passing.{tag-passed}
+use Rattle.cmac.specs.declared.Mac.{Mac}
 use Rattle.cmac.specs.Calls.{tag_of}
-use Rattle.cmac.proofs.LastBlock.{kept_whole}
 use Rattle.cmac.proofs.tag.Goals as goal
 
-pub returns-then-code-ne-DONE : goal.returns-then-code-ne-DONE
-returns-then-code-ne-DONE c = refuses c.tag_code-code.ensures c.if-code-ne-DONE.true
+pub last-block-requires : goal.last-block-requires
+last-block-requires c = (tag-passed _ _ (sym c.in_ok-tag_code.ensures)).0
 
-pub hold-requires : goal.hold-requires
-hold-requires c = let passed = tag-passed _ _ (sym c.tag_code-code.ensures ∙ c.if-code-ne-DONE.false) in
-    let long : length c.args.state.chain ≡ 16 = search rules in record { block_len = passed.1; bytes_bound = omega arith }
-
-pub finish-requires : goal.finish-requires
-finish-requires c = let passed = tag-passed _ _ (sym c.tag_code-code.ensures ∙ c.if-code-ne-DONE.false) in
-    let words : length c.args.state.words ≡ 80 = search rules in
-    let held : length c.args.state.held ≡ 16 = search rules in record { words_len = words; chain_len = c.hold.auto.block ∙ passed.1; held_len = held; count_bound = passed.0 }
+pub copy_from_slice-requires : goal.copy_from_slice-requires
+copy_from_slice-requires c =
+    let sixteen : length c.absorb.new.self.chain ≡ 16 = search rules in
+    (tag-passed _ _ (sym c.in_ok-tag_code.ensures)).1 ∙ sym sixteen
 
 pub returns : goal.returns
 unfolding tag_of chained
 returns c =
     let s = c.args.state in
-    let long : length s.chain ≡ 16 = search rules in
-    done c.tag_code-code.ensures c.if-code-ne-DONE.false
-    (c.finish.ensures
-    ∙ ap (λ (b : List ℕ). encrypted_by s.words (b ⊕ last_block (encrypted_by s.words) (take s.count s.held))) (c.hold.ensures ∙ kept_whole s.chain long))
+    done c.in_ok-tag_code.ensures refl
+    (c.copy_from_slice.ensures.after ∙ ap (λ (t : Mac). t.chain) c.absorb.ensures ∙ ap (λ (b : List ℕ). encrypted_by s.words (s.chain ⊕ b)) c.last-block.ensures)

@@ -1,4 +1,5 @@
 -- `differ::count_all`: n lines have ids below `low`.
+use mathlib.Core.Path.{sym, ◌∙◌}
 use native.Mathlib.Omega.{arith}
 use Rattle.differ.specs.Difference.{ids}
 use Rattle.differ.proofs.Stretches.{most_lines}
@@ -13,31 +14,31 @@ overflow_add-n c =
     let a = c.args in
     let l = c.loop-low in
     let r = c.advance-s in
-    omega (arith, counts_fit a.first.now a.second.now l.low l.n l.invariant.1 r.result r.ensures, one_line r.result c.if-s.true, most_lines a.first.now a.second.now a.one a.two c.requires.looked c.requires.looked_2 ids 0)
+    omega (arith, counts_fit a.one.bundle.now a.two.bundle.now l.low l.n l.invariant.1 r.result r.ensures, one_line r.result.found (sym c.is_some.ensures ∙ c.if-is_some.true), most_lines a.one.bundle.now a.two.bundle.now a.one.formed a.two.formed ids 0)
 
-pub loop-low-preserved-then-s : goal.loop-low-preserved-then-s
-loop-low-preserved-then-s c =
+pub loop-low-preserved-then-is_some : goal.loop-low-preserved-then-is_some
+loop-low-preserved-then-is_some c =
     let a = c.args in
     let l = c.loop-low in
     let r = c.advance-s in
-    (r.ensures.most, rw (one_line r.result c.if-s.true) at (counts_more a.first.now a.second.now l.low l.n l.invariant.1 r.result r.ensures))
+    (r.ensures.most, rw (one_line r.result.found (sym c.is_some.ensures ∙ c.if-is_some.true)) at (counts_more a.one.bundle.now a.two.bundle.now l.low l.n l.invariant.1 r.result r.ensures))
 
 pub loop-low-preserved : goal.loop-low-preserved
 loop-low-preserved c =
     let a = c.args in
     let l = c.loop-low in
     let r = c.advance-s in
-    (r.ensures.most, λ m e. omega (arith, counts_more a.first.now a.second.now l.low l.n l.invariant.1 r.result r.ensures m e, no_line r.result c.if-s.false))
+    (r.ensures.most, λ m e. omega (arith, counts_more a.one.bundle.now a.two.bundle.now l.low l.n l.invariant.1 r.result r.ensures m e, no_line r.result.found (sym c.is_some.ensures ∙ c.if-is_some.false)))
 
 pub returns : goal.returns
 returns c =
     let a = c.args in
     let l = c.loop-low in
-    let e = counts_end a.first.now a.second.now l.low l.n l.invariant.1 (omega arith) in
-    (e, omega (arith, e, most_lines a.first.now a.second.now a.one a.two c.requires.looked c.requires.looked_2 ids 0))
+    let e = counts_end a.one.bundle.now a.two.bundle.now l.low l.n l.invariant.1 (omega arith) in
+    (e, omega (arith, e, most_lines a.one.bundle.now a.two.bundle.now a.one.formed a.two.formed ids 0))
 
-pub loop-low-smaller-then-s : goal.loop-low-smaller-then-s
-loop-low-smaller-then-s c = omega (arith, c.advance-s.ensures.rises, c.advance-s.ensures.most)
+pub loop-low-smaller-then-is_some : goal.loop-low-smaller-then-is_some
+loop-low-smaller-then-is_some c = omega (arith, c.advance-s.ensures.rises, c.advance-s.ensures.most)
 
 pub loop-low-smaller : goal.loop-low-smaller
 loop-low-smaller c = omega (arith, c.advance-s.ensures.rises, c.advance-s.ensures.most)

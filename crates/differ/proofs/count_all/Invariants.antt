@@ -5,7 +5,7 @@ use Rattle.differ.proofs.Rows.{Counts}
 use Rattle.differ.proofs.count_all.Given as goal
 
 abbrev pub invariant-loop-low : goal.invariant-loop-low
-invariant-loop-low l = (l.low ≤ ids) × Counts l.first l.second l.low l.n
+invariant-loop-low l = (l.low ≤ ids) × Counts l.one.bundle.now l.two.bundle.now l.low l.n
 
 abbrev pub decreases-loop-low : goal.decreases-loop-low
 decreases-loop-low l = ids - l.low

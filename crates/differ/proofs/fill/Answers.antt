@@ -11,7 +11,7 @@ keep-k-requires c =
     let a = c.args in
     let l = c.loop-low in
     let r = c.advance-s in
-    filled_fit a.first.now a.second.now a.rows.now l.rows l.low l.k l.invariant c.requires.second_in_bounds r.result r.ensures
+    filled_fit a.one.bundle.now a.two.bundle.now a.rows.now l.rows l.low l.k l.invariant c.requires r.result r.ensures
 
 pub loop-low-preserved : goal.loop-low-preserved
 loop-low-preserved c =
@@ -19,13 +19,13 @@ loop-low-preserved c =
     let l = c.loop-low in
     let r = c.advance-s in
     let k = c.keep-k in
-    filled_more a.first.now a.second.now a.rows.now l.rows l.low l.k l.invariant c.requires.second_in_bounds r.result r.ensures k.new.rows k.result k.ensures.0 k.ensures.1
+    filled_more a.one.bundle.now a.two.bundle.now a.rows.now l.rows l.low l.k l.invariant c.requires r.result r.ensures k.new.rows k.result k.ensures.0 k.ensures.1
 
 pub returns : goal.returns
 returns c =
     let a = c.args in
     let l = c.loop-low in
-    filled-end a.first.now a.second.now a.rows.now l.rows l.low l.k l.invariant c.requires.second_in_bounds c.loop-low-test.false
+    filled-end a.one.bundle.now a.two.bundle.now a.rows.now l.rows l.low l.k l.invariant c.requires c.loop-low-test.false
 
 pub loop-low-smaller : goal.loop-low-smaller
 loop-low-smaller c = omega (arith, c.advance-s.ensures.rises, c.advance-s.ensures.most)

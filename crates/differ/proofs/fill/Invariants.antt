@@ -5,7 +5,7 @@ use Rattle.differ.proofs.Rows.{Filled}
 use Rattle.differ.proofs.fill.Given as goal
 
 abbrev pub invariant-loop-low : goal.invariant-loop-low
-invariant-loop-low l = Filled l.first l.second l.initial.rows l.rows l.low l.k
+invariant-loop-low l = Filled l.one.bundle.now l.two.bundle.now l.initial.rows l.rows l.low l.k
 
 abbrev pub decreases-loop-low : goal.decreases-loop-low
 decreases-loop-low l = ids - l.low

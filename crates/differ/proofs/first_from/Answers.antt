@@ -15,18 +15,18 @@ returns-then-low-id c =
     let a = c.args in
     let l = c.loop-i in
     let t = c.entry-told in
-    first_there a.seen a.bundle.now c.requires.looked a.low l.i t.result (omega arith) l.invariant.1 t.ensures c.if-low-id.true (omega arith)
+    first_there a.side.seen a.side.bundle.now a.side.looked a.side.formed a.low l.i t.result (omega arith) l.invariant.1 t.ensures c.if-low-id.true (omega arith)
 
 pub loop-i-preserved : goal.loop-i-preserved
 loop-i-preserved c =
     let a = c.args in
     let l = c.loop-i in
     let t = c.entry-told in
-    let here : (tell_at 2 l.i (rows_of a.bundle.now)).id < a.low = rw (t.ensures ∙ entry-told a.seen a.bundle.now c.requires.looked l.i) at c.if-low-id.false in
+    let here : (tell_at 2 l.i (rows_of a.side.bundle.now)).id < a.low = rw (t.ensures ∙ entry-told a.side.seen a.side.bundle.now a.side.looked a.side.formed l.i) at c.if-low-id.false in
     (omega arith, below_more _ l.i l.invariant.1 here)
 
 pub returns : goal.returns
 returns c =
     let a = c.args in
     let l = c.loop-i in
-    first_none a.seen a.bundle.now c.requires.looked a.low c.requires.low_lt_ids (λ j k. l.invariant.1 j (omega arith))
+    first_none a.side.seen a.side.bundle.now a.side.looked a.side.formed a.low c.requires (λ j k. l.invariant.1 j (omega arith))

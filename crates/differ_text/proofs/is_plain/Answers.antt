@@ -1,20 +1,25 @@
 -- `differ_text::is_plain`, test by test.
-use borrow.Author.Tests.{eq-eqb, ne_eqb, le-leb, lt-leb}
+use native.Mathlib.Omega.{arith}
+use borrow.Author.Tests.{ne_eqb, le-leb, lt-leb}
 use Rattle.differ_text.specs.Rendered.{plain}
 use Rattle.differ_text.proofs.is_plain.Goals as goal
 
-pub returns-then-b-lt32 : goal.returns-then-b-lt32
+pub returns-in-34 : goal.returns-in-34
 unfolding plain
-returns-then-b-lt32 c = rw (lt-leb 32 _ c.if-b-lt32.true)
+returns-in-34 c = rw c.in-34.is
 
-pub returns-then-b-gt126 : goal.returns-then-b-gt126
+pub returns-in-92 : goal.returns-in-92
 unfolding plain
-returns-then-b-gt126 c = rw (le-leb 32 _ c.if-b-lt32.false, lt-leb _ 126 c.if-b-gt126.true)
+returns-in-92 c = rw c.in-92.is
 
-pub returns-then-b-eq34 : goal.returns-then-b-eq34
+pub returns-in-32-to-126 : goal.returns-in-32-to-126
 unfolding plain
-returns-then-b-eq34 c = rw (le-leb 32 _ c.if-b-lt32.false, le-leb _ 126 c.if-b-gt126.false, eq-eqb _ 34 c.if-b-eq34.true)
+returns-in-32-to-126 c = rw (le-leb 32 c.args.b (omega arith), le-leb c.args.b 126 (omega arith), ne_eqb c.args.b 34 (λ e. omega arith), ne_eqb c.args.b 92 (λ e. omega arith))
 
-pub returns : goal.returns
+pub returns-in_default : goal.returns-in_default
 unfolding plain
-returns c = rw (le-leb 32 _ c.if-b-lt32.false, le-leb _ 126 c.if-b-gt126.false, ne_eqb _ 34 c.if-b-eq34.false)
+returns-in_default c = rw (lt-leb 32 c.args.b (omega arith))
+
+pub returns-in_default-2 : goal.returns-in_default-2
+unfolding plain
+returns-in_default-2 c = rw (le-leb 32 c.args.b (omega arith), lt-leb c.args.b 126 (omega arith))

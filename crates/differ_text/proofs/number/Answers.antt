@@ -1,42 +1,29 @@
--- `differ_text::number`: the number of the bytes before place i.
-use mathlib.Core.Path.{refl, ap, ◌∙◌}
-use Prim.Native.Nat.{ℕ, ◌+◌, ◌*◌}
+-- `differ_text::number`: the number of the bytes passed so far.
+use mathlib.Core.Path.{refl}
+use mathlib.Core.List.{List}
+use Prim.Native.Nat.{ℕ}
 use native.Mathlib.Omega.{arith}
-use Rattle.published.specs.Bytes.{from_bytes}
-use Rattle.differ_text.proofs.Numbers.{next_byte, fits_more, first_eight}
+use lib.ListN.{take, length-take}
+use Rattle.published.specs.Bytes.{Bytes, from_bytes}
+use Rattle.published.proofs.Reading.{bytes_take}
+use Rattle.differ_text.proofs.Numbers.{next_byte, fits_more}
 use Rattle.differ_text.proofs.number.Goals as goal
 
-pub loop-i-init : goal.loop-i-init
+pub loop-b-init : goal.loop-b-init
 unfolding from_bytes
-loop-i-init c = (omega arith, refl)
+loop-b-init c = refl
 
 pub overflow_mul-n : goal.overflow_mul-n
 overflow_mul-n c =
-    let a = c.args in
-    let l = c.loop-i in
-    let e = c.least-end.ensures in
-    omega (arith, fits_more a.body.now l.i l.n l.invariant.1 (λ i. omega (arith, c.shared_slice_known-1.given i)) (omega arith) (omega arith))
+    let first : List ℕ = take c.min.result c.args.body.now in
+    let known : Bytes first = bytes_take c.min.result c.args.body.now (λ i. omega (arith, c.type_inv.body i)) in
+    omega (arith, length-take c.min.result c.args.body.now, fits_more first c.loop-b.b-index c.loop-b.n c.loop-b.invariant known (omega arith) (omega (arith, length-take c.min.result c.args.body.now)))
 
 pub overflow_add-n : goal.overflow_add-n
 overflow_add-n c =
-    let a = c.args in
-    let l = c.loop-i in
-    let e = c.least-end.ensures in
-    let known = c.shared_slice_known-1.given in
-    omega (arith, fits_more a.body.now l.i l.n l.invariant.1 (λ i. omega (arith, known i)) (omega arith) (omega arith), c.wide.ensures, known l.i)
+    let first : List ℕ = take c.min.result c.args.body.now in
+    let known : Bytes first = bytes_take c.min.result c.args.body.now (λ i. omega (arith, c.type_inv.body i)) in
+    omega (arith, known c.loop-b.b-index, fits_more first c.loop-b.b-index c.loop-b.n c.loop-b.invariant known (omega arith) (omega (arith, length-take c.min.result c.args.body.now)))
 
-pub loop-i-preserved : goal.loop-i-preserved
-loop-i-preserved c =
-    let a = c.args in
-    let l = c.loop-i in
-    let e = c.least-end.ensures in
-    (omega arith, ap (λ (b : ℕ). l.n * 256 + b) c.wide.ensures ∙ next_byte a.body.now l.i l.n l.invariant.1 (omega arith))
-
-pub returns : goal.returns
-returns c =
-    let a = c.args in
-    let l = c.loop-i in
-    l.invariant.1 ∙ ap from_bytes (first_eight a.body.now l.i (omega (arith, c.least-end.ensures)))
-
-pub bounds-body-i : goal.bounds-body-i
-bounds-body-i c = omega (arith, c.least-end.ensures)
+pub loop-b-preserved : goal.loop-b-preserved
+loop-b-preserved c = next_byte (take c.min.result c.args.body.now) c.loop-b.b-index c.loop-b.n c.loop-b.invariant (omega arith)

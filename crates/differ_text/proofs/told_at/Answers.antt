@@ -7,9 +7,9 @@ unfolding told_at
 returns c =
     λ i.
     record {
-      state = c.number_at-state.ensures i;
+      state = c.number_at.ensures i;
       id = 0;
-      kind = c.number_at-kind.ensures i;
-      at = c.number_at-at.ensures i;
-      len = c.number_at-len.ensures i;
+      kind = c.number_at-2.ensures i;
+      at = c.number_at-3.ensures i;
+      len = c.number_at-4.ensures i;
     }

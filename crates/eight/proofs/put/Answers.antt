@@ -17,7 +17,7 @@ use Rattle.eight.proofs.Bytes.{put_more}
 use Rattle.eight.proofs.put.Goals as goal
 
 pub loop-n-init : goal.loop-n-init
-loop-n-init c = (omega arith, search rules, search rules, search rules, search rules, search rules, sym (joined_none _))
+loop-n-init c = (search rules, search rules, search rules, search rules, search rules, sym (joined_none _))
 
 pub loop-n-preserved : goal.loop-n-preserved
 loop-n-preserved c =
@@ -26,21 +26,17 @@ loop-n-preserved c =
     let room : 16 * q.n + 16 ≤ length q.output = omega arith in
     let part : ℕ = 16 * q.n in
     let len : length call.new.output ≡ 16 = call.auto.output ∙ one_part 16 part q.output room in (
-      omega arith,
+      q.invariant.0,
       q.invariant.1,
       q.invariant.2,
       q.invariant.3,
-      q.invariant.4,
-      same_len_mid part (part + 16 - part) q.output call.new.output call.auto.output ∙ q.invariant.5,
-      put_more _ q.output call.new.output _ q.n (omega arith) len q.invariant.6
+      same_len_mid part (part + 16 - part) q.output call.new.output call.auto.output ∙ q.invariant.4,
+      put_more _ q.output call.new.output _ q.n (omega arith) len q.invariant.5
           (call.ensures ∙ unpacked-block 1 _ _ refl (one_part 16 part q.output room)),
     )
-
-pub shape_of-output : goal.shape_of-output
-shape_of-output c = c.loop-n.invariant.5 ∙ sym (search rules)
 
 pub returns : goal.returns
 returns c =
     let q = c.loop-n in
     let all : q.n ≡ 4 = omega arith in
-    sym (take_all (16 * q.n) q.output (omega arith)) ∙ q.invariant.6 ∙ ap (λ (n : ℕ). joined n (λ k. write_in 1 (block_of (lane_at c.args.s k)))) all
+    sym (take_all (16 * q.n) q.output (omega arith)) ∙ q.invariant.5 ∙ ap (λ (n : ℕ). joined n (λ k. write_in 1 (block_of (lane_at c.args.s k)))) all

@@ -1,8 +1,7 @@
 -- `eight::taken`: read, and rewritten as the order has it.
-use mathlib.Core.Path.{ap, ◌∙◌}
-use Rattle.eight.specs.Inner.{arriving}
+use Rattle.std.proofs.Common.{ap, ◌∙◌}
+use Rattle.eight.specs.Inner.{rewritten}
 use Rattle.eight.proofs.taken.Goals as goal
 
-pub returns : goal.returns
-returns c =
-    record { lane = λ k h. c.arrive.ensures.lane k h ∙ ap (arriving c.args.order) (c.read.ensures.lane k h) }
+pub returns-in-Number : goal.returns-in-Number
+returns-in-Number c = rw c.in-Number.is (record { lane = λ k h. (c.each.ensures.lane k h).1 ∙ ap (rewritten 1 0) (c.read-s.ensures.lane k h) })

@@ -1,27 +1,28 @@
--- `gift128::by_key`: its number first, and if that is 0 the block by the words of the key.
-use mathlib.Core.Path.{◌≡◌, sym, ap, ◌∙◌}
+-- `gift128::by_key`: the words of the cipher made are those of the key.
+use mathlib.Core.Path.{◌≡◌, ap, ◌∙◌}
+use mathlib.Core.Bool.{true}
 use mathlib.Core.List.{List}
 use Prim.Native.Nat.{ℕ}
 use lib.ListN.{length}
 use borrow.Author.Rules.{rules}
-use Rattle.answers.proofs.Outcome.{refuses, done}
-use Rattle.published.specs.Seen.{seen}
-use Rattle.published.proofs.Calls.{key-passed}
+use Rattle.answers.proofs.Outcome.{done}
+use Rattle.published.specs.Seen.{is_order, seen}
+use Rattle.published.specs.Calls.{key_code, block_code}
+use Rattle.key_schedule.specs.Expand.{expand_code, expanded}
 use Rattle.gift128.specs.Calls.{order_code, rounds_by}
-use Rattle.gift128.proofs.Answers.{order-passed}
-use Rattle.gift128.proofs.Blocks.{filled, crossed-key}
+use Rattle.gift128.proofs.Answers.{not_refused}
+use Rattle.gift128.proofs.Blocks.{crossed-key}
 use Rattle.gift128.proofs.by_key.Goals as goal
 
-pub returns-then-code-ne-DONE : goal.returns-then-code-ne-DONE
-returns-then-code-ne-DONE c = refuses (c.in_order-code.ensures ∙ ap (order_code c.args.order) c.key_code.ensures) c.if-code-ne-DONE.true
-
-pub in_place-requires : goal.in_place-requires
-in_place-requires c = let o = order-passed _ _ (sym (c.in_order-code.ensures ∙ ap (order_code c.args.order) c.key_code.ensures) ∙ c.if-code-ne-DONE.false) in record { order_value = o.0; rkey_len = search rules; block_len = (key-passed _ _ o.1).1 }
-
 pub returns : goal.returns
+unfolding order_code key_code block_code expand_code
 returns c =
     let a = c.args in
     let key : List ℕ = a.key.now in
-    let long : length key ≡ 16 = (key-passed _ _ (order-passed _ _ (sym (c.in_order-code.ensures ∙ ap (order_code c.args.order) c.key_code.ensures) ∙ c.if-code-ne-DONE.false)).1).0 in
-    done (c.in_order-code.ensures ∙ ap (order_code c.args.order) c.key_code.ensures) c.if-code-ne-DONE.false
-    (c.in_place.ensures ∙ ap (λ (ws : List ℕ). seen a.order (rounds_by a.back ws) a.block.now) (c.precompute_rkeys.ensures.leaves ∙ filled key long) ∙ crossed-key a.order a.back key a.block.now)
+    let block : List ℕ = a.block.now in
+    let kept : c.in_ok-cipher.cipher.k ≡ expanded key = search rules in
+    let told : 0 ≡ order_code a.order (key_code (length key) (length block)) = search rules in
+    let there : is_order a.order ≡ true = search rules in
+    let eighty : length c.in_ok-cipher.cipher.k ≡ 80 = search rules in
+    let d = not_refused a.order c.in_ok-cipher.cipher.k block there eighty (search rules) c.by_words.ensures in
+    done (d.0 ∙ told) d.0 (d.1 ∙ ap (λ (ws : List ℕ). seen a.order (rounds_by a.back ws) block) kept ∙ crossed-key a.order a.back key block)

@@ -17,7 +17,7 @@ loop-n-init c = (omega arith, refl, sym (each_none 8 _ _))
 pub into-requires : goal.into-requires
 into-requires c = let l = c.loop-n in
     let room : 8 * l.n + 8 ≤ length c.args.input.now = omega arith in
-    let room' : 8 * l.n + 8 ≤ length l.output = omega arith in record { words_len = c.requires.words_len; input_len = one_part 8 (8 * l.n) c.args.input.now room; output_len = one_part 8 (8 * l.n) l.output room' }
+    let room' : 8 * l.n + 8 ≤ length l.output = omega arith in record { input_len = one_part 8 (8 * l.n) c.args.input.now room; output_len = one_part 8 (8 * l.n) l.output room' }
 
 pub loop-n-preserved : goal.loop-n-preserved
 loop-n-preserved c =

@@ -1,4 +1,5 @@
 -- `gift64::into`: packed, taken through the rounds, unpacked into the other buffer.
+use borrow.Author.Rules.{rules}
 use Rattle.gift64.proofs.Crossing.{crossing}
 use Rattle.gift64.proofs.into.Goals as goal
 
@@ -6,4 +7,4 @@ pub returns : goal.returns
 returns c =
     let a = c.args in
     crossing a.back a.words.now c.packing_64-s.result c.through-t.result a.input.now a.output.now _ c.requires.input_len
-    (λ i. (c.shared_slice_known-2-1.given i).fits) c.requires.output_len c.packing_64-s.ensures c.through-t.ensures c.unpacking_64.ensures
+    (search rules) c.requires.output_len c.packing_64-s.ensures c.through-t.ensures c.unpacking_64.ensures

@@ -19,8 +19,8 @@ returns c =
     let w2 = c.store_later.ensures in
     let w3 : c.store_later-2.new.ws ≡ words_in (in_both_tens ten_further (in_both_tens ten_later a)) =
     c.store_later-2.ensures ∙ ap (λ (t : Twenty). words_in (in_both_tens ten_further t)) b in
-    four-parts c.args.rkey.now c.store.new.ws c.store-2.new.ws c.store_later.new.ws c.store_later-2.new.ws c.requires.rkey_len
+    four-parts c.args.rkey.now c.store.new.ws c.store-2.new.ws c.store_later.new.ws c.store_later-2.new.ws c.requires
     (ap length w0) (ap length w1) (ap length w2)
     ∙ (λ i. w0 i ++ (w1 i ++ (w2 i ++ w3 i)))
-    ∙ twenties-expanded c.args.key.now a c.requires.key_len (λ i. (c.shared_slice_known-1.given i).fits)
+    ∙ twenties-expanded c.args.key.now a c.told-key c.fits-key
     (c.first_twenty-a.ensures ∙ ap (λ (w : Four). joined_tens (five_rounds w) (five_rounds (five_later w))) c.first_words.ensures)

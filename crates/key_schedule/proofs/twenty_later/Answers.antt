@@ -1,19 +1,28 @@
 -- `key_schedule::twenty_later` makes the words that stand twenty further.
+use Prim.Native.Nat.{◌^◌, ◌<◌}
+use lib.Dec.{lit<}
+use borrow.Author.Rules.{rules}
+use Rattle.bits.specs.Digit.{digit, bit}
+use Rattle.published.specs.Rounds.{P}
+use Rattle.round_words.specs.Arranged.{N, nibble_at}
 use Rattle.key_schedule.specs.InnerTens.{ten_later}
+use Rattle.key_schedule.proofs.Tables.{later_by, later_by_exchanges}
 use Rattle.key_schedule.proofs.TenWords.{same_twenty}
 use Rattle.key_schedule.proofs.twenty_later.Goals as goal
 
 pub returns : goal.returns
-unfolding ten_later
+unfolding bit digit nibble_at N P ten_later
 returns c =
+    let t = c.args.t in
+    let fits : (t.v0 < 2 ^ 64) × (t.u0 < 2 ^ 64) × (t.v1 < 2 ^ 64) × (t.u1 < 2 ^ 64) × (t.v2 < 2 ^ 64) × (t.u2 < 2 ^ 64) × (t.v3 < 2 ^ 64) × (t.u3 < 2 ^ 64) × (t.v4 < 2 ^ 64) × (t.u4 < 2 ^ 64) = search rules in
     same_twenty _ _
-    c.key_double_update_0.ensures
-    c.key_triple_update_0.ensures
-    c.key_double_update_1.ensures
-    c.key_triple_update_1.ensures
-    c.key_double_update_2.ensures
-    c.key_triple_update_2.ensures
-    c.key_double_update_3.ensures
-    c.key_triple_update_3.ensures
-    c.key_double_update_4.ensures
-    c.key_triple_update_4.ensures
+    (later_by_exchanges 1 2 _ c.exchanged.ensures (lit< tt) tt fits.1)
+    (later_by 1 3 _ c.moved.ensures tt fits.0)
+    (later_by 2 2 _ c.moved-2.ensures tt fits.3)
+    (later_by 2 3 _ c.moved-3.ensures tt fits.2)
+    (later_by 3 2 _ c.moved-4.ensures tt fits.5)
+    (later_by 3 3 _ c.moved-5.ensures tt fits.4)
+    (later_by 4 2 _ c.moved-6.ensures tt fits.7)
+    (later_by 4 3 _ c.moved-7.ensures tt fits.6)
+    (later_by 5 2 _ c.moved-8.ensures tt fits.9)
+    (later_by 5 3 _ c.moved-9.ensures tt fits.8)

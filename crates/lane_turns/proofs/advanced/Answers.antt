@@ -11,16 +11,16 @@ use Rattle.quintuple.proofs.Several.{reaches}
 use Rattle.lane_turns.specs.Turns.{advanced}
 use Rattle.lane_turns.proofs.advanced.Goals as goal
 
-pub returns-then-l-eq-ENCRYPT : goal.returns-then-l-eq-ENCRYPT
+pub returns-then-l : goal.returns-then-l
 unfolding advanced several
-returns-then-l-eq-ENCRYPT c =
+returns-then-l c =
     let l = c.args.l in
     let long : length l.words ≡ 80 = search rules in
-    c.quintuples.ensures ∙ cond-true _ _ _ (reaches l.words (5 * l.count) 1 long (omega (arith, c.requires))) ∙ rw c.if-l-eq-ENCRYPT.true
+    c.quintuples.ensures ∙ cond-true _ _ _ (reaches l.words (5 * l.count) 1 long (omega (arith, c.requires))) ∙ rw c.if-l.true
 
 pub returns : goal.returns
 unfolding advanced unseveral
 returns c =
     let l = c.args.l in
     let long : length l.words ≡ 80 = search rules in
-    c.inv_quintuples.ensures ∙ cond-true _ _ _ (reaches l.words (35 - 5 * l.count) 1 long (omega (arith, c.requires))) ∙ rw (ne_eqb l.direction 0 c.if-l-eq-ENCRYPT.false)
+    c.inv_quintuples.ensures ∙ cond-true _ _ _ (reaches l.words (35 - 5 * l.count) 1 long (omega (arith, c.requires))) ∙ rw (ne_eqb l.direction 0 c.if-l.false)

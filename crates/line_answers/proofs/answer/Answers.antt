@@ -1,19 +1,13 @@
 -- `line_answers::answer` asks whether the line is good.
-use mathlib.Core.Path.{sym, ap, ◌∙◌}
-use Rattle.bits.proofs.Computed.{cond-true, cond-false}
-use Rattle.text.specs.Written.{written}
 use Rattle.line_answers.specs.Line.{answer_of}
 use Rattle.line_answers.proofs.answer.Goals as goal
 
-pub respond_to-requires : goal.respond_to-requires
-respond_to-requires c = sym c.is_good.ensures ∙ c.if-is_good.true
-
-pub returns-then-is_good : goal.returns-then-is_good
+pub returns-in-Some : goal.returns-in-Some
 unfolding answer_of
-returns-then-is_good c =
-    c.respond_to.ensures ∙ ap written (sym (cond-true _ _ _ (sym c.is_good.ensures ∙ c.if-is_good.true)))
+returns-in-Some c =
+    let asks = c.in-Some.ensures in
+    rw (asks.good, asks.letter, ← asks.key, ← asks.block) c.response.ensures
 
-pub returns-else-is_good : goal.returns-else-is_good
+pub returns-in-None : goal.returns-in-None
 unfolding answer_of
-returns-else-is_good c =
-    c.bad_line.ensures ∙ ap written (sym (cond-false _ _ _ (sym c.is_good.ensures ∙ c.if-is_good.false)))
+returns-in-None c = rw c.in-None.ensures c.bad_line.ensures

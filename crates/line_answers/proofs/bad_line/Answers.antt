@@ -5,4 +5,4 @@ use Rattle.line_answers.proofs.bad_line.Goals as goal
 
 pub returns : goal.returns
 unfolding bad_line
-returns c = c.push_decimal.ensures _ (c.push_all.ensures [] c.empty.ensures)
+returns c = c.push_decimal.ensures _ (c.push_all.ensures [] c.empty-t.ensures)

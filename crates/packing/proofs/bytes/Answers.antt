@@ -6,4 +6,4 @@ use Rattle.packing.proofs.bytes.Goals as goal
 
 pub returns : goal.returns
 unfolding digit to_bytes
-returns c = rw div-one
+returns c = rw div-one c.to_be_bytes.ensures

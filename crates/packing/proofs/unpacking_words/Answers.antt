@@ -6,12 +6,9 @@ use Rattle.packing.proofs.unpacking_words.Goals as goal
 pub returns-then-output-eq16 : goal.returns-then-output-eq16
 returns-then-output-eq16 c =
     let a = c.args in
-    c.to_words.ensures ∙ sym (unpacked-block 1 a.state a.output.now refl (sym c.if-output-eq16.true))
+    c.copy_from_slice.ensures.after ∙ c.to_words.ensures ∙ sym (unpacked-block 1 a.state a.output.now refl (sym c.if-output-eq16.true))
 
 pub returns-else-output-eq16 : goal.returns-else-output-eq16
 returns-else-output-eq16 c =
     let a = c.args in
     sym (unpacked_other 1 a.state a.output.now (λ e. c.if-output-eq16.false (sym e)))
-
-pub to_words-requires : goal.to_words-requires
-to_words-requires c = sym c.if-output-eq16.true

@@ -33,8 +33,8 @@ returns c =
     let placed : r ≡ record { s0 = stands 1 x.s0; s1 = stands 1 x.s1; s2 = stands 1 x.s2; s3 = stands 1 x.s3 } =
     same_words _ _ c.unarranged-s0.ensures c.unarranged-s1.ensures c.unarranged-s2.ensures c.unarranged-s3.ensures in
     let b =
-    go_on 0 a.state c.round_0-a.result x (get_or ws 0 0) (get_or ws 1 0) c.round_constant-c0.result 1 _ (lit< tt)
-    (carried 0 0 0 _ (lit< tt) refl refl c.round_constant-c0.ensures) (block_in_none a.state) c.round_0-a.ensures c.exchanged-x.ensures in
+    go_on 0 a.state c.round.result x (get_or ws 0 0) (get_or ws 1 0) c.round_constant.result 1 _ (lit< tt)
+    (carried 0 0 0 _ (lit< tt) refl refl c.round_constant.ensures) (block_in_none a.state) c.round.ensures c.exchanged-x.ensures in
     sym
     (cond-true _ _ _ (le-leb 2 (length ws) few)
     ∙ ap (λ (l : List ℕ). state_of (rounds128 (pairs_from 0 l) 0 (block_of a.state))) (first_two ws few)

@@ -9,5 +9,5 @@ use Rattle.quintuple.proofs.inv_by_part.Goals as goal
 pub returns : goal.returns
 returns c =
     let a = c.args in
-    unmade a.p a.s _ _ _ _ _ _ _ _ _ _ c.exchanged.ensures c.inv_round_4-s4.ensures c.exchanged-2.ensures c.inv_round_3-s3.ensures c.exchanged-3.ensures c.inv_round_2-s2.ensures c.exchanged-4.ensures c.inv_round_1-s1.ensures c.exchanged-5.ensures c.inv_round_0.ensures
+    unmade a.p a.s _ _ _ _ _ _ _ _ _ _ c.exchanged.ensures c.inv_round-a.ensures c.exchanged-2.ensures c.inv_round-b.ensures c.exchanged-3.ensures c.inv_round-c.ensures c.exchanged-4.ensures c.inv_round-d.ensures c.exchanged-5.ensures c.inv_round.ensures
     ∙ ap (unfive_of a.p) (sym (state_of_block_of a.s (omega (arith, c.well_formed))))

@@ -11,7 +11,7 @@ use Rattle.round_words.proofs.Rows.{length-rearranged, at_place, place-lt}
 use Rattle.round_words.proofs.rearrange.Goals as goal
 
 pub loop-i-init : goal.loop-i-init
-loop-i-init c = (omega arith, c.requires.out_len, refl)
+loop-i-init c = (omega arith, c.told-out, refl)
 
 pub arrange-requires : goal.arrange-requires
 arrange-requires c = rw c.place.ensures (place-lt _ _)
@@ -22,16 +22,13 @@ loop-i-preserved c =
     let back = c.args.back in
     let xs : List ℕ = c.args.given.now in
     let old : List ℕ = c.args.out.now in
-    let whole = length-rearranged back xs ∙ c.requires.given_len ∙ sym c.requires.out_len in
+    let whole = length-rearranged back xs ∙ c.told-given ∙ sym c.told-out in
     let made = c.arrange.ensures ∙ ap (λ (k : ℕ). arranged k (get_or xs l.i 0)) c.place.ensures ∙ sym (at_place back xs l.i (omega arith)) in
     (omega arith, simp length-set l.invariant.1, written_more (rearranged back xs) old l.out l.i c.arrange.result whole (omega arith) l.invariant.2 made)
-
-pub shape_of-out : goal.shape_of-out
-shape_of-out c = c.loop-i.invariant.1 ∙ sym c.requires.out_len
 
 pub returns : goal.returns
 returns c =
     let l = c.loop-i in
     let xs : List ℕ = c.args.given.now in
     let old : List ℕ = c.args.out.now in
-    written_all (rearranged c.args.back xs) old l.out l.i (length-rearranged c.args.back xs ∙ c.requires.given_len ∙ sym c.requires.out_len) (omega arith) l.invariant.2
+    written_all (rearranged c.args.back xs) old l.out l.i (length-rearranged c.args.back xs ∙ c.told-given ∙ sym c.told-out) (omega arith) l.invariant.2

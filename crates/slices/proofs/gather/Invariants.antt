@@ -1,12 +1,10 @@
--- `slices::gather`: the first 16 g bits are right.
-use mathlib.Core.Path.{◌≡◌}
-use Prim.Native.Nat.{◌-◌, ◌*◌, ◌≤◌}
-use lib.ListN.{length}
+-- `slices::gather`: the bits of the nibbles before are right.
+use Rattle.std.proofs.Common.{◌+◌, ◌*◌}
 use Rattle.slices.specs.Inner.{Gathered}
 use Rattle.slices.proofs.gather.Given as goal
 
 abbrev pub invariant-loop-g : goal.invariant-loop-g
-invariant-loop-g l = (l.g ≤ 8) × (length l.y ≡ 128) × Gathered l.x l.key (16 * l.g) l.y
+invariant-loop-g l = Gathered l.x l.key (16 * l.g) l.y
 
-abbrev pub decreases-loop-g : goal.decreases-loop-g
-decreases-loop-g l = 8 - l.g
+abbrev pub invariant-loop-h : goal.invariant-loop-h
+invariant-loop-h l = Gathered l.x l.key (4 * (4 * l.g + l.h)) l.y

@@ -8,4 +8,4 @@ use Rattle.slices.proofs.highest.Goals as goal
 pub returns : goal.returns
 returns c =
     flip (λ q. false) (λ q. eqb q 127) 127 0xffffffffffffffff true (lit< tt) (bit-everywhere true) highest_others refl
-    (flip_none (λ q. false) c.args.y.now c.requires (λ q. refl))
+    (flip_none (λ q. false) c.args.y.now c.told-y (λ q. refl))

@@ -9,20 +9,12 @@ use Rattle.slices.proofs.Flips.{bit-everywhere, mask_is, flip_none, flip, no_bit
 use Rattle.slices.proofs.six_bits.Goals as goal
 
 pub loop-i-init : goal.loop-i-init
-loop-i-init c = (omega arith, c.requires, flip_none (constant_bits 0 c.args.c) _ c.requires (no_bits c.args.c))
+loop-i-init c = flip_none (constant_bits 0 c.args.c) _ c.told-y (no_bits c.args.c)
 
 pub loop-i-preserved : goal.loop-i-preserved
 loop-i-preserved c =
     let l = c.loop-i in
     let k = c.args.c in
     let one : 1 * 2 ^ l.i % 2 ^ 32 ≡ 2 ^ l.i = agree 6 (λ i. 1 * 2 ^ i % 2 ^ 32) (λ i. 2 ^ i) tt l.i (omega arith) in
-    let more =
-    flip (constant_bits l.i k) (constant_bits (l.i + 1) k) (4 * l.i + 3) c.mask-m.result (bit k l.i) (omega arith)
-    (λ b h. ap (λ (w : ℕ). bit w b) (c.mask-m.ensures ∙ ap (mask_by k) one ∙ mask_is k l.i) ∙ bit-everywhere (bit k l.i) b h) (next_others l.i k) (next_here l.i k) l.invariant.2 in
-    (omega arith, more.size, more)
-
-pub returns : goal.returns
-returns c =
-    let l = c.loop-i in
-    let done : l.i ≡ 6 = omega arith in
-    rw done at l.invariant.2
+    flip (constant_bits l.i k) (constant_bits (l.i + 1) k) (4 * l.i + 3) c.mask.result (bit k l.i) (omega arith)
+    (λ b h. ap (λ (w : ℕ). bit w b) (c.mask.ensures ∙ ap (mask_by k) one ∙ mask_is k l.i) ∙ bit-everywhere (bit k l.i) b h) (next_others l.i k) (next_here l.i k) l.invariant

@@ -8,4 +8,4 @@ pub returns : goal.returns
 returns c =
     let done = c.through.ensures in
     group_made c.args.order c.args.back c.args.masks.now c.args.input.now _ _ _
-    (c.to_slices.ensures.lanes (fits_whole _ _ c.requires.1 refl)) done (c.from_slices.ensures ∙ cond-true _ _ _ (fits_whole _ _ c.requires.2 done.size))
+    (c.to_slices.ensures.lanes (fits_whole _ _ c.requires.0 refl)) done (c.from_slices.ensures ∙ cond-true _ _ _ (fits_whole _ _ c.requires.1 done.size))

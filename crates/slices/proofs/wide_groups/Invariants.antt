@@ -1,7 +1,5 @@
--- `slices::wide_groups`: the blocks before place a are written.
-use mathlib.Core.Path.{◌≡◌}
-use Prim.Native.Nat.{◌-◌, ◌/◌, ◌%◌, ◌≤◌}
-use lib.ListN.{length, take}
+-- `slices::wide_groups`: n groups are written.
+use Rattle.std.proofs.Common.{◌≡◌, ◌*◌, ◌/◌, length, take}
 use Rattle.published.specs.Blocks.{each_of}
 use Rattle.published.specs.Gift128.{rounds_all}
 use Rattle.published.specs.Seen.{seen}
@@ -9,10 +7,10 @@ use Rattle.round_words.specs.Arranged.{pairs_from}
 use Rattle.slices.specs.InnerMasks.{masks_of}
 use Rattle.slices.proofs.wide_groups.Given as goal
 
-abbrev pub invariant-loop-a : goal.invariant-loop-a
-invariant-loop-a l =
-    (l.masks ≡ masks_of l.rkey) × (length l.rkey ≡ 80) × (length l.input % 1024 ≡ 0) × (length l.initial.output ≡ length l.input) × (l.a % 1024 ≡ 0) × (l.a ≤ length l.input) × (length l.output ≡ length l.initial.output)
-    × (take l.a l.output ≡ each_of 16 (seen l.order (rounds_all l.back (pairs_from 0 l.rkey))) (l.a / 16) l.input)
-
-abbrev pub decreases-loop-a : goal.decreases-loop-a
-decreases-loop-a l = length l.input - l.a
+abbrev pub invariant-loop-n : goal.invariant-loop-n
+invariant-loop-n l =
+    record {
+      keyed : l.masks ≡ masks_of l.rkey;
+      long : length l.output ≡ length l.input;
+      done : take (1024 * l.n) l.output ≡ each_of 16 (seen l.order (rounds_all l.back (pairs_from 0 l.rkey))) (1024 * l.n / 16) l.input;
+    }

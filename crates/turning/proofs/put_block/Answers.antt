@@ -7,5 +7,5 @@ use Rattle.turning.proofs.put_block.Goals as goal
 
 pub returns : goal.returns
 returns c =
-    laid (to_bytes 8 c.args.high) (to_bytes 8 c.args.low) c.args.output.now c.put.new.output c.put-2.new.output
-    (length_to_bytes 8 c.args.high) c.requires (c.put.ensures ∙ c.bytes.ensures) (c.put-2.ensures ∙ c.bytes-2.ensures)
+    laid (to_bytes 8 c.args.high) (to_bytes 8 c.args.low) c.args.output.now c.copy_from_slice.new.self c.copy_from_slice-2.new.self
+    (length_to_bytes 8 c.args.high) c.requires (c.copy_from_slice.ensures.after ∙ c.bytes.ensures) (c.copy_from_slice-2.ensures.after ∙ c.bytes-2.ensures)

@@ -1,19 +1,23 @@
 -- `turning::to_slices`: of the right lengths, all of it.
-use mathlib.Core.Path.{refl, sym, ◌∙◌}
+use mathlib.Core.Path.{refl, sym, ap, ◌∙◌}
 use mathlib.Core.Bool.{false≢true}
-use Rattle.bits.proofs.Truth.{told-true, told-false}
-use Rattle.turning.proofs.Blocks.{whole_is}
+use Rattle.published.specs.Seen.{read_in}
+use Rattle.turning.specs.Slices.{block_at}
+use Rattle.packing.specs.Orders.{order_number}
+use Rattle.turning.proofs.Blocks.{is_whole, other_words, read_as}
 use Rattle.turning.proofs.to_slices.Goals as goal
 
-pub returns-then-not-is_whole : goal.returns-then-not-is_whole
-returns-then-not-is_whole c =
-    let no = told-false c.is_whole.ensures c.if-not-is_whole.true in
-    record { lanes = λ e. absurd (false≢true (sym no ∙ e)); stays = λ _. refl }
+pub returns-in-Some-as_mut_array : goal.returns-in-Some-as_mut_array
+returns-in-Some-as_mut_array c =
+    let bytes = c.in-Some.ensures.cases in
+    let words = c.in-Some-as_mut_array.ensures.cases in
+    let yes = is_whole _ _ bytes.long words.long in
+    record {
+      lanes =
+          λ _ b h. c.slice.ensures b h ∙ read_as (order_number c.order_of.result) c.args.order c.order_of.ensures (block_at c.in-Some.input.now b)
+          ∙ ap (λ l. read_in c.args.order (block_at l b)) bytes.same;
+      stays = λ e. absurd (false≢true (sym e ∙ yes));
+    }
 
-pub slice-requires : goal.slice-requires
-slice-requires c = let both = whole_is _ _ (told-true c.is_whole.ensures c.if-not-is_whole.false) in record { input_len = both.0; x_len = both.1 }
-
-pub returns : goal.returns
-returns c =
-    let yes = told-true c.is_whole.ensures c.if-not-is_whole.false in
-    record { lanes = λ _. c.slice.ensures; stays = λ e. absurd (false≢true (sym e ∙ yes)) }
+pub returns-in_default-as_mut_array : goal.returns-in_default-as_mut_array
+returns-in_default-as_mut_array c = let no = other_words _ _ c.in_default-as_mut_array.ensures.cases in record { lanes = λ e. absurd (false≢true (sym no ∙ e)); stays = λ _. refl }

@@ -1,8 +1,7 @@
--- `bundle_judge::cut::number4`: two bytes, and two more.
-use mathlib.Core.Path.{sym, ap₂, ◌∙◌}
-use Prim.Native.Nat.{ℕ, ◌+◌, ◌*◌}
-use Rattle.bundle_judge.proofs.Cutting.{number-four}
+-- `bundle_judge::cut::number4`: its four bytes.
+use native.Mathlib.Omega.{arith}
+use Rattle.bundle_judge.proofs.Cutting.{number_four}
 use Rattle.bundle_judge.proofs.cut.number4.Goals as goal
 
 pub returns : goal.returns
-returns c = ap₂ (λ (x y : ℕ). x * 65536 + y) c.number2-high.ensures.0 c.number2-low.ensures.0 ∙ sym (number-four _ _ c.requires)
+returns c = omega (arith, c.from_be_bytes.ensures, number_four c.args.at c.args.b.now c.requires)

@@ -1,6 +1,8 @@
 -- `bundle_writer::judge::lent_row`: its four numbers.
-use Rattle.bundle_writer.proofs.Lent.{lent_there}
+use mathlib.Core.Path.{refl}
+use Rattle.bundle_writer.specs.Inner.{lent_row}
 use Rattle.bundle_writer.proofs.judge.lent_row.Goals as goal
 
 pub returns : goal.returns
-returns c = lent_there c.args.rows.now c.args.p c.args.at
+unfolding lent_row
+returns c = refl

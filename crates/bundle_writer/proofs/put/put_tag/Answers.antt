@@ -13,6 +13,6 @@ returns c =
     let a = c.args in
     let out : List ℕ = a.out.now in
     let w = c.whole in
-    let p = c.put_bytes in
-    let made : p.new.out ≡ tag_of a.key.now (take a.end out) = p.ensures ∙ tag_made a.key.now out _ w.new.out a.end _ c.requires.key_len refl w.ensures in
-    tag-put out p.new.out (tag_of a.key.now (take a.end out)) a.end c.requires.end_in_bounds (ap length made ∙ length-tag a.key.now (take a.end out)) made
+    let p = c.copy_from_slice in
+    let made : p.new.self ≡ tag_of a.key.now (take a.end out) = p.ensures.after ∙ tag_made a.key.now out _ w.new.out a.end _ c.requires.key_len refl w.ensures in
+    tag-put out p.new.self (tag_of a.key.now (take a.end out)) a.end c.requires.end_in_bounds (ap length made ∙ length-tag a.key.now (take a.end out)) made

@@ -1,7 +1,7 @@
--- `gift64::rounds::encrypt_state`: the rounds from i on of the block that the words stand for give what all of them give.
+-- `gift64::rounds::encrypt_state`: the rounds from 2 i on of the block that the words stand for give what all of them give.
 use mathlib.Core.Path.{◌≡◌, refl, ap, ◌∙◌}
 use mathlib.Core.List.{List}
-use Prim.Native.Nat.{ℕ, ◌-◌}
+use Prim.Native.Nat.{ℕ, ◌+◌, ◌-◌, ◌*◌, ◌%◌, ◌<◌}
 use native.Mathlib.Omega.{arith}
 use Rattle.published.specs.Rounds.{rounds}
 use Rattle.published.specs.Gift64.{rounds64}
@@ -11,17 +11,20 @@ use Rattle.gift64.proofs.Rounding.{forward}
 use Rattle.gift64.proofs.rounds.encrypt_state.Goals as goal
 
 pub loop-i-init : goal.loop-i-init
-loop-i-init c = (refl, omega arith, refl)
+loop-i-init c = (omega arith, refl)
 
 pub loop-i-preserved : goal.loop-i-preserved
 loop-i-preserved c =
     let l = c.loop-i in
-    let ws : List ℕ = c.args.words.now in (
+    let ws : List ℕ = c.args.words.now in
+    let even : (2 * l.i) % 2 ≡ 0 = omega arith in
+    let more : 2 * l.i < 28 = omega arith in
+    let two : 2 * (l.i + 1) ≡ 2 * l.i + 2 = omega arith in (
       omega arith,
-      omega arith,
-      forward ws l.i l.invariant.0 (omega arith) l.state c.round_0-t.result _ c.round_constant-c.ensures c.round_constant-d.ensures
-          c.round_0-t.ensures c.round_1-state.ensures
-          ∙ l.invariant.2,
+      ap (λ (r : ℕ). rounds64 (pairs_in (28 - r) r ws) r (block_of64 c.round-state.result)) two
+          ∙ forward ws (2 * l.i) even more l.state c.round-t.result _ c.round_constant-c.ensures c.round_constant-d.ensures
+          c.round-t.ensures c.round-state.ensures
+          ∙ l.invariant.1,
     )
 
 pub returns : goal.returns
@@ -29,7 +32,7 @@ unfolding rounds pairs_in
 returns c =
     let l = c.loop-i in
     let ws : List ℕ = c.args.words.now in
-    let all : 28 ≡ l.i = omega arith in
-    let done : rounds64 (pairs_in 0 28 ws) 28 (block_of64 l.state) ≡ rounds64 (pairs_in (28 - l.i) l.i ws) l.i (block_of64 l.state) =
+    let all : 28 ≡ 2 * l.i = omega arith in
+    let done : rounds64 (pairs_in 0 28 ws) 28 (block_of64 l.state) ≡ rounds64 (pairs_in (28 - 2 * l.i) (2 * l.i) ws) (2 * l.i) (block_of64 l.state) =
     ap (λ (i : ℕ). rounds64 (pairs_in (28 - i) i ws) i (block_of64 l.state)) all in
-    done ∙ l.invariant.2
+    done ∙ l.invariant.1

@@ -14,7 +14,7 @@ use Rattle.gift64.proofs.words.expand.Goals as goal
 
 pub loop-i-init : goal.loop-i-init
 loop-i-init c =
-    (omega arith, first_four c.args.key.now c.requires (λ i. (c.shared_slice_known-1.given i).fits) c.key_words-k.ensures, none_stored _ _ (search rules))
+    (omega arith, first_four c.args.key.now c.requires (search rules) c.key_words-k.ensures, none_stored _ _ (search rules))
 
 pub loop-i-preserved : goal.loop-i-preserved
 unfolding four_of

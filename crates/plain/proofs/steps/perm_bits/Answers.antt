@@ -36,7 +36,7 @@ unfolding perm_bits
 returns c =
     let s : List ℕ = c.args.s.now in
     let all : c.loop-i.i ≡ 4 * length s = omega arith in
-    c.copy.ensures
+    c.copy_from_slice.ensures.after
     ∙ ap (take (length s)) (c.loop-i.invariant.1 ∙ ap (λ (i : ℕ). nibbles_of 32 (moved (P (4 * length s)) i (state_of s))) all)
     ∙ take-nibbles_of (length s) 32 _ c.requires.most
 
@@ -48,11 +48,3 @@ p-requires c = (omega arith, omega (arith, c.requires.most))
 
 pub state_bit-requires : goal.state_bit-requires
 state_bit-requires c = (c.requires, omega arith)
-
-pub slice_bounds-copy-end : goal.slice_bounds-copy-end
-slice_bounds-copy-end c = sym (ap length c.loop-i.invariant.1 ∙ length-nibbles_of 32 _)
-
-pub copy-requires : goal.copy-requires
-copy-requires c =
-    let long : 32 ≡ length c.loop-i.moved = sym (ap length c.loop-i.invariant.1 ∙ length-nibbles_of 32 _) in
-    omega (arith, long, c.requires.most)

@@ -39,7 +39,7 @@ unfolding un_perm_bits
 returns c =
     let s : List ℕ = c.args.s.now in
     let all : c.loop-i.i ≡ 4 * length s = omega arith in
-    c.copy.ensures
+    c.copy_from_slice.ensures.after
     ∙ ap (take (length s)) (c.loop-i.invariant.1 ∙ ap (λ (i : ℕ). nibbles_of 32 (of_bits i (λ k. bit (state_of s) (P (4 * length s) k)))) all)
     ∙ take-nibbles_of (length s) 32 _ c.requires.most
 
@@ -48,11 +48,3 @@ slice_bounds-xor_bit-end c = sym (ap length c.loop-i.invariant.1 ∙ length-nibb
 
 pub p-requires : goal.p-requires
 p-requires c = (omega arith, omega (arith, c.requires.most))
-
-pub slice_bounds-copy-end : goal.slice_bounds-copy-end
-slice_bounds-copy-end c = sym (ap length c.loop-i.invariant.1 ∙ length-nibbles_of 32 _)
-
-pub copy-requires : goal.copy-requires
-copy-requires c =
-    let long : 32 ≡ length c.loop-i.moved = sym (ap length c.loop-i.invariant.1 ∙ length-nibbles_of 32 _) in
-    omega (arith, long, c.requires.most)

@@ -1,5 +1,0 @@
--- `bundle_format::knows_kind`: below the number of kinds.
-use Rattle.bundle_format.proofs.knows_kind.Goals as goal
-
-pub returns : goal.returns
-returns c = rw c.kinds_of.ensures

@@ -1,5 +1,0 @@
--- `bundle_reader::absent`: the bare state.
-use Rattle.bundle_reader.proofs.absent.Goals as goal
-
-pub returns : goal.returns
-returns c = c.only.ensures

@@ -1,9 +1,0 @@
--- `counter::counter_bytes` are the digits to base 256.
-use native.Mathlib.Nat.{div-one}
-use Rattle.bits.specs.Digit.{digit}
-use Rattle.published.specs.Bytes.{to_bytes}
-use Rattle.counter.proofs.counter_bytes.Goals as goal
-
-pub returns : goal.returns
-unfolding digit to_bytes
-returns c = rw div-one

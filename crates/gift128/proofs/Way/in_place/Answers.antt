@@ -1,0 +1,13 @@
+-- `gift128::Way::in_place`: packed, taken through the rounds, unpacked.
+use mathlib.Core.List.{List}
+use Prim.Native.Nat.{ℕ}
+use borrow.Author.Rules.{rules}
+use Rattle.gift128.proofs.Blocks.{crossing}
+use Rattle.gift128.proofs.Way.in_place.Goals as goal
+
+pub returns : goal.returns
+returns c =
+    let block : List ℕ = c.args.block.now in
+    crossing c.args.self.order c.requires.order_value c.args.self.back c.args.self.words.now c.packing-s.result c.through-t.result block block _
+    c.requires.block_len (search rules) c.requires.block_len
+    c.packing-s.ensures c.through-t.ensures c.unpacking.ensures

@@ -1,5 +1,0 @@
--- `gift_host::gift64_encrypt_by_key` hands its arguments on to `gift64::encrypt_by_key`, and has its contract.
-use Rattle.gift_host.proofs.gift64_encrypt_by_key.Goals as goal
-
-pub returns : goal.returns
-returns c = c.encrypt_by_key.ensures

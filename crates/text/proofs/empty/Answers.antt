@@ -1,8 +1,0 @@
--- `text::empty` holds nothing.
-use mathlib.Core.Path.{refl}
-use Rattle.text.specs.Written.{written}
-use Rattle.text.proofs.empty.Goals as goal
-
-pub returns : goal.returns
-unfolding written
-returns c = refl
