@@ -27,6 +27,7 @@ pub struct Mac {
 }
 
 // What starting answers C.
+// Stays: here and below a code beside a value is the C interface (gift_mac_told, gift_mac_checked).
 #[repr(C)]
 #[derive(Clone, Copy)]
 pub struct Started {
@@ -114,7 +115,7 @@ fn mix(block: &mut [u8; 16], other: &[u8])
     requires { length other.now ≡ 16 }
     ensures { block.new ≡ block.old ⊕ other.now }
 {
-    // Stays an index: tried `iter_mut().zip(other)` in `counter::mix`, its twin by the other standard's ⊕; a proof then knows no byte of the block.
+    // Stays: an index, and beside `counter::mix`, which is of the other standard's ⊕. Tried there: `iter_mut().zip(input)`, after which a proof knows no byte.
     for (i, b) in block.iter_mut().enumerate() {
         *b ^= other[i];
     }
@@ -150,6 +151,7 @@ impl Mac {
         ensures { self.new ≡ fed (emptied self.old) bytes.now }
     {
         let mut rest = bytes;
+        // Stays: a `while` on what is left, no index. The last block stays out, full or not, so `chunks` would need its count first and be no plainer.
         while 16 < rest.len() {
             let (block, more) = rest.split_at(16);
             self.absorb(block);
@@ -251,6 +253,7 @@ fn differing(a: &[u8], b: &[u8]) -> u8
 }
 
 // Whether two tags are the same.
+// Stays: no `==`, which may stop at the first byte that differs (docs/CLAIMS.md: the comparison looks at all sixteen bytes).
 fn same_tags(a: &[u8], b: &[u8]) -> bool
     requires { length a.now ≡ length b.now }
     ensures { result ≡ same a.now b.now }

@@ -13,7 +13,7 @@ ghost use Rattle.counter.specs.Calls.{no_stream, Starts, Feeds};
 ghost use Rattle.counter.specs.Inner.{LastBytes, NewBytes, MoreBytes, KeyBytes, place_of, moved};
 
 use answers::{Refusal, number};
-use counter_orders::{Place, start_code};
+use counter_orders::{Place, blocks_needed, start_code};
 use gift128::{encrypt_blocks_by_words, encrypt_by_words};
 use key_schedule::precompute_rkeys;
 use packing::NUMBER;
@@ -34,6 +34,7 @@ pub struct Stream {
 }
 
 // What starting answers C.
+// Stays: a code beside the stream is the C interface (gift_stream_started).
 #[repr(C)]
 #[derive(Clone, Copy)]
 pub struct Started {
@@ -66,7 +67,7 @@ fn mix(input: &[u8], output: &mut [u8])
     requires { length input.now ≡ length output.old }
     ensures { output.new ≡ input.now ⊕ output.old }
 {
-    // Stays an index: tried `output.iter_mut().zip(input)`, after which a proof knows no byte of the output.
+    // Stays: an index into the input. Tried `output.iter_mut().zip(input)`, after which a proof knows no byte of the output.
     for (i, b) in output.iter_mut().enumerate() {
         *b ^= input[i];
     }
@@ -90,7 +91,7 @@ fn counter_blocks(nonce: &[u8; 12], counter: usize, blocks: &mut [u8])
     requires blocks_len { length blocks.old % 16 ≡ 0 }
     ensures { blocks.new ≡ key_blocks (λ t. t) nonce.now counter (length blocks.old / 16) }
 {
-    // Stays an index: tried `blocks.chunks_exact_mut(16).enumerate()`, after which a proof knows no byte of the blocks.
+    // Stays: an index. Tried `blocks.chunks_exact_mut(16).enumerate()`, after which a proof knows no byte of the blocks.
     for k in 0..blocks.len() / 16 {
         let a = 16 * k;
         let block = counter_block(nonce, counter + k);
@@ -125,7 +126,7 @@ impl Stream {
         requires output_len { length output.old % 16 ≡ 0 }
         ensures { output.new ≡ key_blocks (encrypted_by self.now.words) self.now.nonce self.now.counter (length output.old / 16) }
     {
-        // Stays an index: of `chunks_mut` and `as_chunks_mut` a proof knows no byte that was written (tried in `counter_blocks`).
+        // Stays: an index, and the multiples of 16 that are asked, since of `chunks_mut` and `as_chunks_mut` a proof knows no byte that was written (tried in `counter_blocks`).
         let mut a: usize = 0;
         while a < output.len() {
             let n = blocks.len().min(output.len() - a);
@@ -220,7 +221,7 @@ fn moves(p: Place, n: usize) -> Place
     requires n_bound { needed p.unused n ≤ counters }
     ensures { result ≡ moved p n }
 {
-    let blocks = p.blocks_needed(n);
+    let blocks = blocks_needed(p.unused as usize, n);
     let counter = (p.counter as usize) + blocks;
     let unused = (p.unused as usize) + 16 * blocks - n;
     let spent = spent_at(counter, p.spent);

@@ -7,6 +7,13 @@ ghost use Rattle.counter_orders.specs.Orders.{start_code, needed, left, enough, 
 
 use answers::Refusal;
 
+// New blocks that n bytes need.
+pub fn blocks_needed(unused: usize, n: usize) -> usize
+    ensures { result ≡ needed unused n }
+{
+    n.saturating_sub(unused).div_ceil(16)
+}
+
 // The numbers of a stream that move.
 // Stays: `spent` is a number beside `counter`, not an Option of it, since a piece that uses no new block leaves both as the caller gave them (`moved`).
 #[derive(Clone, Copy)]
@@ -17,13 +24,6 @@ pub struct Place {
 }
 
 impl Place {
-    // New blocks that n bytes need.
-    pub fn blocks_needed(self, n: usize) -> usize
-        ensures { result ≡ needed self.unused n }
-    {
-        n.saturating_sub(self.unused as usize).div_ceil(16)
-    }
-
     // Counters that are left.
     fn counters_left(self) -> usize
         ensures { result ≡ left self.counter self.spent }
@@ -38,7 +38,7 @@ impl Place {
     fn has_enough(self, n: usize) -> bool
         ensures { result ≡ enough self.counter self.unused self.spent n }
     {
-        self.blocks_needed(n) <= self.counters_left()
+        blocks_needed(self.unused as usize, n) <= self.counters_left()
     }
 
     // A piece: 10, 3, 12.

@@ -123,6 +123,7 @@ fn advance(one: Side, two: Side, low: usize) -> Step
 
 // ---- all ids
 
+// Stays: a `while` from id to id, here and in `fill`, since the walk is over two tables at once, and its step says where to go on.
 fn count_all(one: Side, two: Side) -> u32
     ensures { (result ≡ length (lines_from ids 0 one.entry.bundle.now two.entry.bundle.now)) × (result ≤ 512) }
 {

@@ -49,6 +49,7 @@ impl<'a> Page<'a> {
         }
     }
 
+    // Stays: a loop like that of `Text::push_all`, since the new form is no plainer: a trait of both types with a law of its own would be longer than both.
     pub fn put_all(&mut self, bs: &[u8])
         ensures { Puts bs.now self.old self.new }
     {

@@ -93,7 +93,7 @@ fn scatter(s: State) -> State
 // ---- in every lane the same
 
 // For each closure the compiler makes a function of its own, with one call in the loop's body. The arrays are the function's own while it works, and are stored once.
-// Stays: an index, since the loop reads and writes four arrays at the same place, and after an `iter_mut` a proof knows no element.
+// Stays: an index, since the loop reads and writes four arrays at the same place, and after an `iter_mut` in a `zip` a proof knows no element.
 fn each<F: Fn(State) -> State>(s: &mut Lanes, f: F)
     requires { F.IsAlwaysCallable f }
     ensures { EachBy (F.post f) s.old s.new }

@@ -5,7 +5,8 @@ mod orders;
 
 ghost use Rattle.std.specs.Prelude.{◌≡◌, true, false, ◌+◌, ◌%◌, ◌≤◌, length, replicate};
 ghost use Rattle.answers.specs.Refusals.{number};
-ghost use Rattle.published.specs.Seen.{is_order, seen};
+ghost use Rattle.published.specs.Seen.{seen};
+ghost use Rattle.packing.specs.Orders.{order_number};
 ghost use Rattle.primitives.specs.Packed.{block_of, state_of};
 ghost use Rattle.key_schedule.specs.Expand.{Expands};
 ghost use Rattle.gift128.specs.Calls.{rounds_by, all_blocks, words_made};
@@ -14,8 +15,8 @@ ghost use Rattle.gift128.specs.Calls.{MakesOneRound, CiphersBlockIn};
 
 use answers::Refusal;
 use key_schedule::precompute_rkeys;
-use orders::{block_code, blocks_code, eighty, key_code, many_code, order_code};
-use packing::{NUMBER, packing, unpacking};
+use orders::{block_code, blocks_code, eighty, key_code, many_code};
+use packing::{NUMBER, Order, packing, unpacking};
 use primitives::State;
 use quintuple::{first_round, inv_quintuples, quintuples};
 use slices::all_groups;
@@ -53,6 +54,7 @@ impl Gift128 {
     }
 
     // One block. Refusals: 13, 2.
+    // Stays: a call each way, here and below, a rule of the project: "Encrypting and decrypting are separate calls" (document 01); `Way` is what both are made of.
     pub fn encrypt_block(self, order: u32, block: &mut [u8]) -> Result<(), Refusal>
         ensures { CiphersBlockIn false order self.k block.old (number result) block.new }
     {
@@ -71,7 +73,7 @@ impl Gift128 {
 // A way through the rounds: by these words, done or (back) undone, on blocks that are seen in this order. Encrypting and decrypting differ in `back` alone.
 #[derive(Clone, Copy)]
 struct Way<'a> {
-    order: u32,
+    order: Order,
     words: &'a [u32; 80],
     back: bool,
 }
@@ -90,35 +92,34 @@ impl Way<'_> {
 
     // One block, in place.
     fn in_place(self, block: &mut [u8])
-        requires order_value { is_order self.order ≡ true }
         requires block_len { length block.old ≡ 16 }
-        ensures { block.new ≡ seen self.entry.order (rounds_by self.entry.back self.entry.words.now) block.old }
+        ensures { block.new ≡ seen (order_number self.entry.order) (rounds_by self.entry.back self.entry.words.now) block.old }
     {
-        let s = packing(self.order, block);
+        let order = u32::from(self.order);
+        let s = packing(order, block);
         let t = self.through(s);
-        unpacking(self.order, t, block);
+        unpacking(order, t, block);
     }
 
     // One block, from one buffer to another.
     fn into(self, input: &[u8], output: &mut [u8])
-        requires order_value { is_order self.order ≡ true }
         requires input_len { length input.now ≡ 16 }
         requires output_len { length output.old ≡ 16 }
-        ensures { output.new ≡ seen self.entry.order (rounds_by self.entry.back self.entry.words.now) input.now }
+        ensures { output.new ≡ seen (order_number self.entry.order) (rounds_by self.entry.back self.entry.words.now) input.now }
     {
-        let s = packing(self.order, input);
+        let order = u32::from(self.order);
+        let s = packing(order, input);
         let t = self.through(s);
-        unpacking(self.order, t, output);
+        unpacking(order, t, output);
     }
 
     // Block n of the output from block n of the input, one after the other.
     fn singles(self, input: &[u8], output: &mut [u8])
-        requires order_value { is_order self.order ≡ true }
         requires input_len { length input.now % 16 ≡ 0 }
         requires output_len { length output.old ≡ length input.now }
-        ensures { output.new ≡ all_blocks (seen self.entry.order (rounds_by self.entry.back self.entry.words.now)) input.now }
+        ensures { output.new ≡ all_blocks (seen (order_number self.entry.order) (rounds_by self.entry.back self.entry.words.now)) input.now }
     {
-        // Stays: over `chunks_exact_mut` nothing is known of the output afterwards, so that the proof does not close.
+        // Stays: `chunks_exact_mut` promises nothing of what the output holds afterwards, so that no proof could close.
         for n in 0..input.len() / 16 {
             let a = 16 * n;
             let e = a + 16;
@@ -128,10 +129,9 @@ impl Way<'_> {
 
     // Many at once where there are four and more, and singly what is alone.
     fn all(self, input: &[u8], output: &mut [u8])
-        requires order_value { is_order self.order ≡ true }
         requires input_len { length input.now % 16 ≡ 0 }
         requires output_len { length output.old ≡ length input.now }
-        ensures { output.new ≡ all_blocks (seen self.entry.order (rounds_by self.entry.back self.entry.words.now)) input.now }
+        ensures { output.new ≡ all_blocks (seen (order_number self.entry.order) (rounds_by self.entry.back self.entry.words.now)) input.now }
     {
         if input.len() < 64 {
             self.singles(input, output);
@@ -140,7 +140,7 @@ impl Way<'_> {
         let m = input.len() - alone(input.len());
         let words = self.words;
         all_groups(
-            self.order,
+            self.order.into(),
             words,
             &input[0..m],
             &mut output[0..m],
@@ -165,7 +165,7 @@ fn alone(n: usize) -> usize
 fn by_words(order: u32, rkey: &[u32], block: &mut [u8], back: bool) -> Result<(), Refusal>
     ensures { CiphersByWordsIn back order rkey.now block.old (number result) block.new }
 {
-    order_code(order)?;
+    let order = Order::try_from(order)?;
     let words = eighty(rkey)?;
     block_code(block.len())?;
     Way { order, words, back }.in_place(block);
@@ -188,7 +188,7 @@ pub fn decrypt_by_words(order: u32, rkey: &[u32], block: &mut [u8]) -> Result<()
 fn by_key(order: u32, key: &[u8], block: &mut [u8], back: bool) -> Result<(), Refusal>
     ensures { CiphersByKeyIn back order key.now block.old (number result) block.new }
 {
-    order_code(order)?;
+    Order::try_from(order)?;
     key_code(key.len(), block.len())?;
     let cipher = Gift128::new(key)?;
     by_words(order, &cipher.k, block, back)
@@ -230,7 +230,7 @@ fn many_by_words(
 ) -> Result<(), Refusal>
     ensures { CiphersBlocksByWordsIn back order rkey.now input.now output.old (number result) output.new }
 {
-    order_code(order)?;
+    let order = Order::try_from(order)?;
     let words = eighty(rkey)?;
     blocks_code(input.len(), output.len())?;
     Way { order, words, back }.all(input, output);
@@ -269,7 +269,7 @@ fn many_by_key(
 ) -> Result<(), Refusal>
     ensures { CiphersBlocksIn back order key.now input.now output.old (number result) output.new }
 {
-    order_code(order)?;
+    Order::try_from(order)?;
     many_code(key.len(), input.len(), output.len())?;
     let cipher = Gift128::new(key)?;
     many_by_words(order, &cipher.k, input, output, back)

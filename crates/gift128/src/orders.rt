@@ -1,25 +1,13 @@
-// The refusals of each call, by the order's number and the lengths of what is lent, tried in the documents' order, and nothing else.
+// The refusals of each call but that of its order, which is tried first: by the lengths of what is lent, in the documents' order, and nothing else.
 ghost use Rattle.std.specs.Prelude.{◌≡◌, eqb, length, ⊤};
 ghost use Rattle.std.specs.Result.{MatchResult};
 ghost use Rattle.answers.specs.Numbers.{BAD_WORD_COUNT};
 ghost use Rattle.answers.specs.Order.{unless};
 ghost use Rattle.answers.specs.Refusals.{number};
 ghost use Rattle.published.specs.Calls.{block_code, key_code, blocks_code, many_code};
-ghost use Rattle.gift128.specs.Calls.{order_code};
 
 use crate::Gift128;
 use answers::Refusal;
-use packing::is_order;
-
-// 13, before the call's own refusals.
-pub(crate) fn order_code(order: u32) -> Result<(), Refusal>
-    ensures { number result ≡ order_code order 0 }
-{
-    if !is_order(order) {
-        return Err(Refusal::BadOrder);
-    }
-    Ok(())
-}
 
 // Round words, before what is asked of the blocks: 4.
 pub(crate) fn eighty(words: &[u32]) -> Result<&[u32; 80], Refusal>

@@ -33,6 +33,7 @@ fn by_key(key: &[u8], block: &mut [u8], back: bool) -> Result<(), Refusal>
 }
 
 // One block by a key, in place. Refusals: 1, 2.
+// Stays: a call each way, here and below, a rule of the project: "Encrypting and decrypting are separate calls" (document 01).
 pub fn encrypt_by_key(key: &[u8], block: &mut [u8]) -> Result<(), Refusal>
     ensures { CiphersByKey64 false key.now block.old (number result) block.new }
 {
@@ -64,6 +65,7 @@ fn all(words: &[u32; 28], input: &[u8], output: &mut [u8], back: bool)
     requires output_len { length output.old ≡ length input.now }
     ensures { output.new ≡ all_of 8 (crossed_by back words.now) input.now }
 {
+    // Stays: `chunks_exact_mut` promises nothing of what the output holds afterwards, so that no proof could close.
     for n in 0..input.len() / 8 {
         let a = 8 * n;
         let e = a + 8;

@@ -95,6 +95,7 @@ fn encrypt_state(s: State, words: &[u32; 28]) -> State
     ensures { block_of64 result ≡ rounds64 (pairs_in 28 0 words.now) 0 (block_of64 s) }
 {
     let mut state = s;
+    // Stays: an index, here and on the way back, since two rounds are a turn, each with its own word and constant.
     for i in 0..14 {
         let c = round_constant(2 * i);
         let d = round_constant(2 * i + 1);

@@ -35,6 +35,7 @@ pub(crate) fn expand(key: &[u8]) -> [u32; 28]
 {
     let mut k = key_words(key);
     let mut words = [0u32; 28];
+    // Stays: an index, since two words are written at a turn, and after a write through `as_chunks_mut` a proof knows no element.
     for i in 0..14 {
         words[2 * i] = turned(k.v0);
         words[2 * i + 1] = k.v1;

@@ -24,6 +24,7 @@ pub fn key_update(x: u32) -> u32
 
 // ---- two words in one number, one in its low half and one in its high half: a step that moves the bits of both alike costs what it costs for one
 
+// Stays: by hand, since the library has no method that takes a number of 64 bits by its halves.
 fn join(low: u32, high: u32) -> u64
     ensures { result ≡ joined low high }
 {
@@ -356,6 +357,7 @@ fn forty_later(t: Twenty) -> Twenty
     }
 }
 
+// Stays: an array of ten numbers, stored by a loop, was tried and is slower: 182.4 cycles for an expansion, and 181.3 by these fields.
 fn store(ws: &mut [u32], t: Twenty)
     requires { length ws.old ≡ 20 }
     ensures { ws.new ≡ words_in t }

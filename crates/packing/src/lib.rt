@@ -17,6 +17,7 @@ use primitives::State;
 
 // The place of a bit in a half has six binary figures. This exchanges figures k and k + 2 of every place: the mask has the places where figure k is 1 and figure k + 2 is 0,
 // a bit there changes places with the one 3 * 2^k above it, and where the two figures are equal nothing moves.
+// Stays: `swapmovesingle` has these three lines on 32 bits; one function over both widths would need a trait with a method and a law for each of four operators.
 fn cross(x: u64, k: u32, mask: u64) -> u64
     requires { (k < 4) × (mask ≡ rising k) }
     ensures { result ≡ reordered (crossed k) x }
@@ -28,6 +29,7 @@ fn cross(x: u64, k: u32, mask: u64) -> u64
 
 // From 4i + j to 16j + i: of a place's figures, 0 and 1 are j and the four above them are i. Figure 0 climbs to 2 and on to 4,
 // figure 1 to 3 and on to 5, and each figure of i is passed once and comes down by two.
+#[tactic(auto, unfolding(crate::specs::Inner::rising, bits::specs::Digit::of_bits, bits::specs::Digit::number))]
 fn gather(x: u64) -> u64
     ensures { result ≡ reordered gathered_from x }
 {
@@ -38,6 +40,7 @@ fn gather(x: u64) -> u64
 }
 
 // Each step undoes itself: the same four, the last first, go back.
+#[tactic(auto, unfolding(crate::specs::Inner::rising, bits::specs::Digit::of_bits, bits::specs::Digit::number))]
 fn scatter(x: u64) -> u64
     ensures { result ≡ reordered scattered_from x }
 {
@@ -64,6 +67,7 @@ fn word(high: u64, low: u64, j: u32) -> u32
 }
 
 // Half h, the upper one being 1, its bits still gathered: piece h of each word, that of word 3 on top.
+#[tactic(auto, unfolding(bits::specs::Digit::number))]
 fn half(s: State, h: u32) -> u64
     requires { h < 2 }
     ensures { result ≡ half_from s h }
@@ -93,7 +97,8 @@ pub enum Order {
     Words,
 }
 
-// The orders' numbers.
+// The orders' numbers, as the documents have them and C gives them.
+// Stays: numbers by name beside the enum, as what may not change: `packing`, `groups`, `encrypt_by_words` and others take an order by its number, and refuse those that are none.
 pub const NUMBER: u32 = 0;
 
 pub const WORDS: u32 = 1;

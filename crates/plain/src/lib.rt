@@ -66,6 +66,7 @@ fn read_key(key: &[u8]) -> [u16; 8]
     ensures { key_of result ≡ from_bytes key.now }
 {
     let mut k = [0; 8];
+    // Stays: no plainer by zip, since k7 comes first in the bytes and last in k.
     for i in 0..8 {
         k[7 - i] = u16::from_be_bytes([key[2 * i], key[2 * i + 1]]);
     }
@@ -77,6 +78,7 @@ fn read_block(block: &[u8], s: &mut [u8])
     requires { length s.old ≡ 2 * length block.now }
     ensures { s.new ≡ nibbles_of (length s.old) (from_bytes block.now) }
 {
+    // Stays: `chunks_exact_mut` promises nothing of what s holds afterwards, so that no proof could close.
     for i in 0..block.len() {
         let b = block[block.len() - 1 - i];
         s[2 * i] = b % 16;
@@ -88,6 +90,7 @@ fn write_block(s: &[u8], block: &mut [u8])
     requires { Nibbles s.now × (length s.now ≡ 2 * length block.old) }
     ensures { block.new ≡ to_bytes (length block.old) (state_of s.now) }
 {
+    // Stays: `iter_mut().rev()` promises nothing of what the block holds afterwards, so that no proof could close.
     for i in 0..block.len() {
         let at = block.len() - 1 - i;
         block[at] = s[2 * i + 1] * 16 + s[2 * i];
@@ -108,6 +111,7 @@ fn cross(key: &[u8], block: &mut [u8], back: bool)
 }
 
 // ---- the calls: refusals 1, 2
+// Stays: a call each way and for each member, a rule of the project: separate calls in document 01, the number of each by its own definition (`key_code`, `key_code64`).
 
 pub fn encrypt_by_key(key: &[u8], block: &mut [u8]) -> Result<(), Refusal>
     ensures { CiphersByKey false key.now block.old (number result) block.new }

@@ -11,6 +11,7 @@ ghost use Rattle.plain_key.specs.Inner.{key_of, count_of, place_of, uv_of};
 use answers::Refusal;
 
 // ---- what the members differ in, by the number of nibbles: GIFT-64 has sixteen, GIFT-128 thirty-two
+// Stays: a function for each thing, since the new form is no plainer: `of(n, 28, 40)`, `of(n, 0, 1)` would put the numbers where they are used, and the documents say U and V apart.
 
 pub const SMALL: usize = 16;
 
@@ -86,6 +87,7 @@ pub fn key_code(key: usize, block: usize) -> Result<(), Refusal>
 }
 
 // ---- GIFT-64's, the same
+// Stays: two of five lines, each by its own definition, since the new form is no plainer: `code(key, block, 8)` would be called by both names and be as long.
 
 pub fn key_code_64(key: usize, block: usize) -> Result<(), Refusal>
     ensures { number result ≡ key_code64 key block }

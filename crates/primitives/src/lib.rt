@@ -16,6 +16,8 @@ pub struct State {
 }
 
 // Four bytes, the first the most significant.
+// Stays: four parameters and not an array, since `u32big` is public and docs/CLAIMS.md names it with its promise of the four.
+#[tactic(auto, unfolding(published::specs::Bytes::from_bytes))]
 pub fn u32big(x0: u8, x1: u8, x2: u8, x3: u8) -> u32
     ensures { result ≡ from_bytes (x0 ∷ x1 ∷ x2 ∷ x3 ∷ []) }
 {
@@ -41,6 +43,7 @@ fn ror_within(group: u32, k: u32, x: u32) -> u32
     ((x >> k) & stay) | ((x & leave) << (group - k))
 }
 
+// Stays: the nine names, each an instance of `ror_within`, as what may not change: they are the crate's, which document 01 wants, and docs/CLAIMS.md has their contracts.
 pub fn byte_ror_2(x: u32) -> u32
     ensures { result ≡ permuted (ror_in 8 2) x }
 {
@@ -96,6 +99,7 @@ pub fn nibble_ror_3(x: u32) -> u32
 }
 
 // The two words of a swap.
+// Stays: a struct and not a tuple, as document 01 has it of `swapmove`.
 #[derive(Clone, Copy)]
 pub struct Two {
     pub a: u32,

@@ -19,6 +19,7 @@ use primitives::{
 pub mod consts;
 
 // The table on every column. It leaves s0 and s3 exchanged.
+// Stays: `slices` has these steps on 64 bits, here and in the inverse; one box over both widths would need a trait with a method and a law for each of four operators.
 pub fn sbox(s: State) -> State
     ensures { result ≡ boxed entry s }
 {
@@ -307,6 +308,7 @@ pub fn quintuple_round(state: State, rkey: &[u32], i: usize) -> State
 }
 
 // The same rounds undone.
+// Stays: a function each way, as what may not change: both names are the crate's, and docs/CLAIMS.md has their contracts.
 pub fn inv_quintuple_round(state: State, rkey: &[u32], i: usize) -> State
     ensures { result ≡ unquintupled state rkey.now i }
 {

@@ -1,29 +1,22 @@
-// The calls of GIFT-64, by their numbers in main.rt: the fields of each are in oracle/README.md.
-use crate::text;
-use crate::text::{BYTES, field, front, key, left, says_number};
+// The calls of GIFT-64, by their names: the fields of each are in oracle/README.md.
+use crate::text::Line;
+use answers::Refusal;
 
-fn by_key(call: u32, key: &[u8], input: &[u8], lent: &mut [u8]) -> u32 {
-    match call {
-        0x81 => answers::number(gift64::encrypt_by_key(key, lent)),
-        0x82 => answers::number(gift64::decrypt_by_key(key, lent)),
-        0x83 => answers::number(gift64::encrypt_blocks(key, input, lent)),
-        _ => answers::number(gift64::decrypt_blocks(key, input, lent)),
+fn by_key(name: &str, key: &[u8], input: &[u8], lent: &mut [u8]) -> Option<Result<(), Refusal>> {
+    match name {
+        "gift64_encrypt_by_key" => Some(gift64::encrypt_by_key(key, lent)),
+        "gift64_decrypt_by_key" => Some(gift64::decrypt_by_key(key, lent)),
+        "gift64_encrypt_blocks" => Some(gift64::encrypt_blocks(key, input, lent)),
+        "gift64_decrypt_blocks" => Some(gift64::decrypt_blocks(key, input, lent)),
+        _ => None,
     }
 }
 
-fn on_key(call: u32, line: &[u8], lent: &mut [u8]) -> u32 {
-    let k = key(line);
-    let q = field(line, b"input");
-    let key = k.bytes;
-    let input = q.bytes;
-    by_key(call, front(&key, k.n), front(&input, q.n), lent)
-}
-
-// Whether the call leaves and gives what the line says.
-pub(crate) fn right(call: u32, line: &[u8]) -> bool {
-    let z = text::lent(line);
-    let mut bytes = z.bytes;
-    let n = z.n % BYTES;
-    let code = on_key(call, line, &mut bytes[..n]);
-    left(line, front(&bytes, n)) & says_number(line, code)
+// Whether the call leaves and gives what the line says; none of a name that is none of these calls'.
+pub(crate) fn right(name: &str, line: Line) -> Option<bool> {
+    let key = line.field(b"key");
+    let input = line.field(b"input");
+    let mut lent = line.field(b"lent");
+    let answer = by_key(name, key.bytes(), input.bytes(), lent.lent_bytes())?;
+    Some(line.left(lent.bytes()) && line.says_number(answers::number(answer)))
 }

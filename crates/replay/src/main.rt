@@ -16,7 +16,7 @@ mod text;
 use bench::{Bench, LANES};
 use std::io;
 use std::io::{BufReader, Read};
-use text::{find, number};
+use text::Line;
 
 // How long a line can be.
 const LINE: usize = 4096;
@@ -40,63 +40,44 @@ fn closed(rt: &impl Print, r: Run) -> io::Result<()> {
     Ok(())
 }
 
-fn headed(rt: &impl Print, r: Run, line: &[u8]) -> io::Result<Run> {
+fn headed(rt: &impl Print, r: Run, line: Line) -> io::Result<Run> {
     closed(rt, r)?;
-    rt.write_all(line)?;
+    rt.write_all(line.text)?;
     rt.write_all(b": ")?;
     let mut q = r;
     q.before = r.equal;
     Ok(q)
 }
 
-fn counted(rt: &impl Print, r: Run, right: bool, line: &[u8]) -> io::Result<Run> {
+fn counted(rt: &impl Print, r: Run, right: bool, line: Line) -> io::Result<Run> {
     let mut q = r;
     if right {
         q.equal = r.equal.wrapping_add(1);
         return Ok(q);
     }
     q.different = r.different.wrapping_add(1);
-    rt.write_all(line)?;
+    rt.write_all(line.text)?;
     rt.write_all(b" differs\n")?;
     Ok(q)
 }
 
-// The number of a call, and 0 for a name that is none. (The names are read as the fields of a line are: a number is in hex.)
-fn call_of(line: &[u8]) -> u32 {
-    let e = find(line, 0, line.len(), b' ');
-    number(
-        b"encrypt_by_key=1 decrypt_by_key=2 one_round=3 encrypt_blocks=4 decrypt_blocks=5 encrypt_block=6 decrypt_block=7 \
-          encrypt_by_words=8 decrypt_by_words=9 unpacking=a precompute_rkeys=b new=c encrypt_blocks_by_words=d decrypt_blocks_by_words=e \
-          pairs=f words=10 \
-          ror=11 swapmovesingle=12 u32big=13 byte_ror_2=14 byte_ror_4=15 byte_ror_6=16 half_ror_4=17 half_ror_8=18 half_ror_12=19 \
-          nibble_ror_1=1a nibble_ror_2=1b nibble_ror_3=1c round_constant=1d \
-          sbox=21 inv_sbox=22 swapmove=23 packing=24 quintuple_round=25 inv_quintuple_round=26 first_round=27 \
-          open_lane=31 turn=32 close=33 take=34 fresh=35 put=41 record=42 #=51 ##=52 \
-          cmac=61 cmac_check=62 cmac_start=63 cmac_piece=64 cmac_tag=65 \
-          start_stream=71 stream_piece=72 \
-          gift64_encrypt_by_key=81 gift64_decrypt_by_key=82 gift64_encrypt_blocks=83 gift64_decrypt_blocks=84 \
-          bundle_ask=91 bundle_open=92 bundle_look=93 bundle_entry=94 bundle_write=95",
-        &line[0..e],
-    )
-}
-
 // The records that are told become the bench, whatever the call made of it: a difference is told once.
-fn on_bench(rt: &impl Print, r: Run, call: u32, line: &[u8]) -> io::Result<Run> {
+fn on_bench(rt: &impl Print, r: Run, line: Line) -> io::Result<Run> {
     let bench = r.bench;
     let mut told = r.told;
-    told.last = number(line, b"last");
+    told.last = line.number(b"last");
     let mut q = r;
     q.bench = told;
     q.told = told;
-    if call == 0x41 {
+    if line.name() == "put" {
         return Ok(q);
     }
-    counted(rt, q, benches::right(call, bench, told, line), line)
+    counted(rt, q, benches::right(line.name(), bench, told, line), line)
 }
 
 // A record that the bench does not have is a difference.
-fn recorded(rt: &impl Print, r: Run, line: &[u8]) -> io::Result<Run> {
-    if LANES <= number(line, b"lane") as usize {
+fn recorded(rt: &impl Print, r: Run, line: Line) -> io::Result<Run> {
+    if LANES <= line.number(b"lane") as usize {
         return counted(rt, r, false, line);
     }
     let told = benches::told(r.told, line);
@@ -105,18 +86,24 @@ fn recorded(rt: &impl Print, r: Run, line: &[u8]) -> io::Result<Run> {
     Ok(q)
 }
 
-fn judged(rt: &impl Print, r: Run, line: &[u8]) -> io::Result<Run> {
-    let call = call_of(line);
-    match call {
-        0x31..=0x41 => on_bench(rt, r, call, line),
-        0x42 => recorded(rt, r, line),
-        0x51 => Ok(r),
-        0x52 => headed(rt, r, line),
-        0x61..=0x65 => counted(rt, r, macs::right(call, line), line),
-        0x71..=0x72 => counted(rt, r, streams::right(call, line), line),
-        0x81..=0x84 => counted(rt, r, gift64s::right(call, line), line),
-        0x91..=0x95 => counted(rt, r, bundles::right(call, line), line),
-        _ => counted(rt, r, cipher::right(call, line), line),
+fn right(name: &str, line: Line) -> bool {
+    let other = macs::right(name, line)
+        .or(streams::right(name, line))
+        .or(gift64s::right(name, line))
+        .or(bundles::right(name, line));
+    match other {
+        Some(right) => right,
+        None => cipher::right(name, line),
+    }
+}
+
+fn judged(rt: &impl Print, r: Run, line: Line) -> io::Result<Run> {
+    match line.name() {
+        "open_lane" | "turn" | "close" | "take" | "fresh" | "put" => on_bench(rt, r, line),
+        "record" => recorded(rt, r, line),
+        "#" => Ok(r),
+        "##" => headed(rt, r, line),
+        name => counted(rt, r, right(name, line), line),
     }
 }
 
@@ -128,7 +115,7 @@ fn replayed<R: Read + Drop>(rt: &impl Print, start: Run, input: R) -> io::Result
     for byte in input.bytes() {
         let byte = byte?;
         if byte == b'\n' || n == LINE {
-            r = judged(rt, r, &line[..n])?;
+            r = judged(rt, r, Line { text: &line[..n] })?;
             n = 0;
         } else {
             line[n] = byte;
@@ -138,7 +125,7 @@ fn replayed<R: Read + Drop>(rt: &impl Print, start: Run, input: R) -> io::Result
     if n == 0 {
         return Ok(r);
     }
-    judged(rt, r, &line[..n])
+    judged(rt, r, Line { text: &line[..n] })
 }
 
 fn main(rt: HostRuntime) -> io::Result<()> {

@@ -4,26 +4,26 @@
 // and eight to a word, with full stops between them where a reader wants some. A number may be written with fewer digits than eight. The
 // order of the fields is free, one that is not there is empty, and one that the call does not have is passed over. oracle/README.md has the
 // fields of each call.
-ghost use Rattle.std.specs.Prelude.{◌≤◌, length};
-
 use primitives::State;
+use std::str::from_utf8;
 
 // How long a field can be; its last word is kept free.
-pub(crate) const WORDS: usize = 128;
+const WORDS: usize = 128;
 
-pub(crate) const BYTES: usize = 4 * WORDS;
+const BYTES: usize = 4 * WORDS;
 
 const DIGITS: usize = 8 * WORDS;
 
 const MOST: usize = DIGITS - 8;
 
 // A field, seen as bytes and seen as words: how many of each there are, one that is not whole among them, and zeros after them.
+// Stays: two buffers with a length beside each, for the project has no heap.
 #[derive(Clone, Copy)]
 pub(crate) struct Part {
-    pub(crate) n: usize,
-    pub(crate) m: usize,
-    pub(crate) bytes: [u8; BYTES],
-    pub(crate) words: [u32; WORDS],
+    n: usize,
+    m: usize,
+    bytes: [u8; BYTES],
+    words: [u32; WORDS],
 }
 
 // How far the reading of a field has come: its digits so far, and the last eight.
@@ -33,193 +33,152 @@ struct At {
     word: u32,
 }
 
-// Where a byte first stands from one place of a text on and before another; that other place if it does not.
-pub(crate) fn find(text: &[u8], from: usize, to: usize, byte: u8) -> usize
-    requires low { from ≤ to }
-    requires high { to ≤ length text.now }
-    ensures low { from ≤ result }
-    ensures high { result ≤ to }
-{
-    match text[from..to].iter().position(|b| *b == byte) {
-        Some(i) => from + i,
-        None => to,
-    }
-}
-
-// Where the name of a field ends, and its digits follow; the end of the line if it has no such field.
-fn place(line: &[u8], name: &[u8]) -> usize
-    ensures { result ≤ length line.now }
-{
-    let mut at = 0;
-    while at < line.len() {
-        let e = find(line, at, line.len(), b' ');
-        let q = find(line, at, e, b'=');
-        if &line[at..q] == name {
-            return q;
+impl At {
+    // One byte more: a digit, or none.
+    fn more(self, c: u8) -> At {
+        match c {
+            0..=47 => self,
+            58..=63 => self,
+            _ => At {
+                digits: self.digits % MOST + 1,
+                word: (self.word << 4) | ((c % 16) + 9 * (c / 64)) as u32,
+            },
         }
-        at = e + 1;
-    }
-    line.len()
-}
-
-// One byte more: a digit, or none.
-fn more(p: At, c: u8) -> At {
-    match c {
-        0..=47 => p,
-        58..=63 => p,
-        _ => At {
-            digits: p.digits % MOST + 1,
-            word: (p.word << 4) | ((c % 16) + 9 * (c / 64)) as u32,
-        },
     }
 }
 
-// Each digit completes the byte and the word that it stands in. (With no digit yet, it is the free ones at the end.)
-fn put(p: At, bytes: &mut [u8; BYTES], words: &mut [u32; WORDS]) {
-    let d = p.digits % DIGITS + (DIGITS - 1);
-    bytes[d / 2 % BYTES] = (p.word % 256) as u8;
-    words[d / 8 % WORDS] = p.word;
-}
-
-fn read(text: &[u8]) -> Part {
-    let mut bytes = [0u8; BYTES];
-    let mut words = [0u32; WORDS];
-    let mut p = At { digits: 0, word: 0 };
-    for c in text {
-        p = more(p, *c);
-        put(p, &mut bytes, &mut words);
+impl Part {
+    // Each digit completes the byte and the word that it stands in. (With no digit yet, it is the free ones at the end.)
+    fn put(&mut self, p: At) {
+        let d = p.digits % DIGITS + (DIGITS - 1);
+        self.bytes[d / 2 % BYTES] = (p.word % 256) as u8;
+        self.words[d / 8 % WORDS] = p.word;
     }
-    let d = p.digits % DIGITS;
-    Part {
-        n: (d + 1) / 2,
-        m: (d + 7) / 8,
-        bytes,
-        words,
+
+    fn read(text: &[u8]) -> Part {
+        let mut part = Part {
+            n: 0,
+            m: 0,
+            bytes: [0; BYTES],
+            words: [0; WORDS],
+        };
+        let mut p = At { digits: 0, word: 0 };
+        for c in text {
+            p = p.more(*c);
+            part.put(p);
+        }
+        let d = p.digits % DIGITS;
+        part.n = (d + 1) / 2;
+        part.m = (d + 7) / 8;
+        part
     }
-}
 
-pub(crate) fn field(line: &[u8], name: &[u8]) -> Part {
-    let a = place(line, name);
-    let e = find(line, a, line.len(), b' ');
-    read(&line[a..e])
-}
-
-// The fields that many calls have.
-pub(crate) fn key(line: &[u8]) -> Part {
-    field(line, b"key")
-}
-
-pub(crate) fn lent(line: &[u8]) -> Part {
-    field(line, b"lent")
-}
-
-pub(crate) fn words(line: &[u8]) -> Part {
-    field(line, b"words")
-}
-
-pub(crate) fn front(bytes: &[u8; BYTES], n: usize) -> &[u8] {
-    let all = &bytes[..];
-    let e = n % BYTES;
-    &all[0..e]
-}
-
-pub(crate) fn front_words(words: &[u32; WORDS], m: usize) -> &[u32] {
-    let all = &words[..];
-    let e = m % WORDS;
-    &all[0..e]
-}
-
-// The first four words of a field.
-pub(crate) fn four(line: &[u8], name: &[u8]) -> State {
-    let p = field(line, name);
-    let w = p.words;
-    State {
-        s0: w[0],
-        s1: w[1],
-        s2: w[2],
-        s3: w[3],
+    pub(crate) fn is_empty(&self) -> bool {
+        self.n == 0
     }
-}
 
-fn byte(w: u32, n: u32) -> u8 {
-    ((w >> (n % 32)) % 256) as u8
+    pub(crate) fn bytes(&self) -> &[u8] {
+        &self.bytes[..self.n % BYTES]
+    }
+
+    pub(crate) fn words(&self) -> &[u32] {
+        &self.words[..self.m % WORDS]
+    }
+
+    // Lent to a call with its whole length.
+    pub(crate) fn lent_bytes(&mut self) -> &mut [u8] {
+        let n = self.n % BYTES;
+        &mut self.bytes[..n]
+    }
+
+    pub(crate) fn lent_words(&mut self) -> &mut [u32] {
+        let m = self.m % WORDS;
+        &mut self.words[..m]
+    }
+
+    // The first four words.
+    fn four(&self) -> State {
+        let [s0, s1, s2, s3, ..] = self.words;
+        State { s0, s1, s2, s3 }
+    }
 }
 
 // The sixteen bytes of four words.
-pub(crate) fn sixteen(s: State) -> [u8; 16] {
-    [
-        byte(s.s0, 24),
-        byte(s.s0, 16),
-        byte(s.s0, 8),
-        byte(s.s0, 0),
-        byte(s.s1, 24),
-        byte(s.s1, 16),
-        byte(s.s1, 8),
-        byte(s.s1, 0),
-        byte(s.s2, 24),
-        byte(s.s2, 16),
-        byte(s.s2, 8),
-        byte(s.s2, 0),
-        byte(s.s3, 24),
-        byte(s.s3, 16),
-        byte(s.s3, 8),
-        byte(s.s3, 0),
-    ]
+fn sixteen_of(s: State) -> [u8; 16] {
+    ((s.s0 as u128) << 96
+        | (s.s1 as u128) << 64
+        | (s.s2 as u128) << 32
+        | s.s3 as u128).to_be_bytes()
 }
 
-// The twelve bytes of the first three.
-pub(crate) fn twelve(s: State) -> [u8; 12] {
-    [
-        byte(s.s0, 24),
-        byte(s.s0, 16),
-        byte(s.s0, 8),
-        byte(s.s0, 0),
-        byte(s.s1, 24),
-        byte(s.s1, 16),
-        byte(s.s1, 8),
-        byte(s.s1, 0),
-        byte(s.s2, 24),
-        byte(s.s2, 16),
-        byte(s.s2, 8),
-        byte(s.s2, 0),
-    ]
+#[derive(Clone, Copy)]
+pub(crate) struct Line<'a> {
+    pub(crate) text: &'a [u8],
 }
 
-pub(crate) fn args(line: &[u8]) -> State {
-    four(line, b"args")
-}
+impl<'a> Line<'a> {
+    // The first word, the name of a call.
+    pub(crate) fn name(self) -> &'a str {
+        let word = match self.text.iter().position(|b| *b == b' ') {
+            Some(i) => &self.text[..i],
+            None => self.text,
+        };
+        from_utf8(word).unwrap_or("")
+    }
 
-pub(crate) fn number(line: &[u8], name: &[u8]) -> u32 {
-    let s = four(line, name);
-    s.s0
-}
+    // ---- what a line tells
 
-pub(crate) fn same_words(a: &[u32], b: &[u32]) -> bool {
-    a == b
-}
+    pub(crate) fn field(self, name: &[u8]) -> Part {
+        for word in self.text.split(|b| *b == b' ') {
+            if let Some(rest) = word.strip_prefix(name) {
+                if rest.is_empty() || rest[0] == b'=' {
+                    return Part::read(rest);
+                }
+            }
+        }
+        Part::read(b"")
+    }
 
-// Whether a field has these words, and no more.
-pub(crate) fn says(line: &[u8], name: &[u8], got: &[u32]) -> bool {
-    let p = field(line, name);
-    let words = p.words;
-    same_words(front_words(&words, p.m), got)
-}
+    pub(crate) fn four(self, name: &[u8]) -> State {
+        self.field(name).four()
+    }
 
-pub(crate) fn says_one(line: &[u8], name: &[u8], got: u32) -> bool {
-    says(line, name, &[got])
-}
+    pub(crate) fn number(self, name: &[u8]) -> u32 {
+        self.four(name).s0
+    }
 
-pub(crate) fn says_number(line: &[u8], code: u32) -> bool {
-    says_one(line, b"number", code)
-}
+    pub(crate) fn sixteen(self, name: &[u8]) -> [u8; 16] {
+        sixteen_of(self.four(name))
+    }
 
-pub(crate) fn says_bytes(line: &[u8], name: &[u8], got: &[u8]) -> bool {
-    let p = field(line, name);
-    let bytes = p.bytes;
-    front(&bytes, p.n) == got
-}
+    // The twelve bytes of the first three words.
+    pub(crate) fn twelve(self, name: &[u8]) -> [u8; 12] {
+        let mut twelve = [0; 12];
+        twelve.copy_from_slice(&self.sixteen(name)[..12]);
+        twelve
+    }
 
-// Whether these bytes are what was lent, afterwards.
-pub(crate) fn left(line: &[u8], got: &[u8]) -> bool {
-    says_bytes(line, b"left", got)
+    // ---- what a line says of an answer
+
+    // Whether a field has these words, and no more.
+    pub(crate) fn says(self, name: &[u8], got: &[u32]) -> bool {
+        self.field(name).words() == got
+    }
+
+    pub(crate) fn says_one(self, name: &[u8], got: u32) -> bool {
+        self.says(name, &[got])
+    }
+
+    pub(crate) fn says_number(self, code: u32) -> bool {
+        self.says_one(b"number", code)
+    }
+
+    pub(crate) fn says_bytes(self, name: &[u8], got: &[u8]) -> bool {
+        self.field(name).bytes() == got
+    }
+
+    // Whether these bytes are what was lent, afterwards.
+    pub(crate) fn left(self, got: &[u8]) -> bool {
+        self.says_bytes(b"left", got)
+    }
 }

@@ -18,6 +18,7 @@ fn swapped(x: u32, swaps: &[(u32, u32)]) -> u32
     swaps.iter().fold(x, |w, s| swapmovesingle(w, s.0, s.1))
 }
 
+// Stays: the four names, each a table for `swapped`, as what may not change: docs/CLAIMS.md has `rearrange_rkey_0` .. `3`.
 pub fn rearrange_rkey_0(x: u32) -> u32
     ensures { result ≡ arranged 1 x }
 {
@@ -74,6 +75,7 @@ pub fn rearrange_rkey_3(x: u32) -> u32
     )
 }
 
+// Stays: a switch on the arrangement's number, since the new form is no plainer: an enum of five would be made of `i / 2 % 5` and taken apart by the same match.
 // A word put into arrangement k. Before the first round and after the fifth it is kept as it is.
 fn arrange(k: usize, w: u32) -> u32
     requires { k < 6 }
@@ -89,6 +91,7 @@ fn arrange(k: usize, w: u32) -> u32
 }
 
 // The arrangement that makes word i of the number in its place, and the one that makes the number of the word: the two add up to five.
+#[tactic(auto, unfolding(crate::specs::Inner::place_in))]
 fn place(back: bool, i: usize) -> usize
     ensures { result ≡ place_in back i }
 {

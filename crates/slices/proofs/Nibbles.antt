@@ -188,18 +188,6 @@ module _ (x key y : List ℕ) (n a b c d : ℕ) (hn : n < 32) (ea : 4 * a ≡ P 
 
 -- ---- all of them
 
-pub none_scattered : {x key : List ℕ} (y : List ℕ) → length y ≡ 128 → Scattered x key 0 y
-none_scattered y e = record { size = e; there = λ i h. absurd (omega arith) }
-
-pub none_gathered : {x key : List ℕ} (y : List ℕ) → length y ≡ 128 → Gathered x key 0 y
-none_gathered y e = record { size = e; there = λ i h. absurd (omega arith) }
-
-pub scattered_is : {x key y : List ℕ} {k : ℕ} (n : ℕ) → k ≡ n → Scattered x key k y → Scattered x key n y
-scattered_is n e s = rw e at s
-
-pub gathered_is : {x key y : List ℕ} {k : ℕ} (n : ℕ) → k ≡ n → Gathered x key k y → Gathered x key n y
-gathered_is n e s = rw e at s
-
 pub all_scattered : (x key y : List ℕ) (k : ℕ) → k ≡ 128 → Scattered x key k y → Lanes (keyed key) x y
 all_scattered x key y k e s =
     record {

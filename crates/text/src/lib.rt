@@ -64,6 +64,7 @@ impl Text {
         self.push(hex_digit(b % 16));
     }
 
+    // Stays: a loop beside that of `push_all`, since the new form is no plainer: a third function would take `push` or `push_byte` as a closure.
     pub fn push_hex(&mut self, bs: &[u8])
         ensures { Adds (hex_of bs.now) self.old self.new }
     {

@@ -21,6 +21,7 @@ struct Two {
     b: u64,
 }
 
+// Stays: `swapmove` has these lines on 32 bits; one function over both widths would need a trait with a method and a law for each of four operators.
 // Each bit of `a` at an odd multiple of n places changes places with the bit of `b` that stands n lower.
 fn cross(a: u64, b: u64, n: u32) -> Two
     requires { IsTrue (is_level n) }
@@ -35,6 +36,7 @@ fn cross(a: u64, b: u64, n: u32) -> Two
     }
 }
 
+// Stays: eight names and not an array, since no loop goes over them: each level would name its words by the same numbers in brackets.
 #[derive(Clone, Copy)]
 struct Eight {
     w0: u64,
@@ -190,6 +192,7 @@ fn arrive(order: Order, x: &[u64; 128], y: &mut [u64; 128])
 }
 
 // On the way out the halves go side by side, as the transposition wants them.
+// Stays: beside `arrive`, since one loop with the place as a closure is as long as both, with what the closure promises.
 fn leave(order: Order, x: &[u64; 128], y: &mut [u64; 128])
     ensures { Placed (λ i. outward_in (order_number order) (pairwise i)) x.now y.new }
 {

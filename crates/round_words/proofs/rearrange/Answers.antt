@@ -1,5 +1,5 @@
 -- `round_words::rearrange`: the numbers before place i are rearranged.
-use mathlib.Core.Path.{refl, sym, ap, ◌∙◌}
+use mathlib.Core.Path.{sym, ap, ◌∙◌}
 use mathlib.Core.List.{List}
 use Prim.Native.Nat.{ℕ}
 use native.Mathlib.Omega.{arith}
@@ -9,9 +9,6 @@ use Rattle.round_words.specs.Arranged.{arranged}
 use Rattle.round_words.specs.Inner.{rearranged}
 use Rattle.round_words.proofs.Rows.{length-rearranged, at_place, place-lt}
 use Rattle.round_words.proofs.rearrange.Goals as goal
-
-pub loop-i-init : goal.loop-i-init
-loop-i-init c = (omega arith, c.told-out, refl)
 
 pub arrange-requires : goal.arrange-requires
 arrange-requires c = rw c.place.ensures (place-lt _ _)

@@ -12,6 +12,8 @@ use Rattle.published.specs.Seen.{seen}
 use Rattle.published.proofs.Seen.{orders}
 use Rattle.published.proofs.Parts.{first_part, ended, part_length}
 use Rattle.eight.proofs.Answers.{are_grouped}
+use Rattle.packing.specs.Orders.{order_number}
+use Rattle.packing.proofs.Inverse.{is_order_number}
 use Rattle.gift128.specs.Calls.{rounds_by}
 use Rattle.gift128.proofs.Way.all.Goals as goal
 
@@ -53,7 +55,7 @@ singles-requires-2 c = let first = c.all_groups in
     let out₁ : List ℕ = put_mid 0 (m - 0) out first.new.output in
     let same₁ : length out₁ ≡ length input = same_len_mid 0 (m - 0) out first.new.output first.auto.output ∙ same in
     let left : length (take (length input - m) (drop m input)) ≡ length input - m = simp (length-take, length-drop) (omega arith) in
-    let left₁ : length (take (length out₁ - m) (drop m out₁)) ≡ length input - m = simp (length-take, length-drop) (omega arith) in record { order_value = c.requires.order_value; input_len = part_length input m (omega (arith, own.ensures.0)) whole; output_len = left₁ ∙ sym left }
+    let left₁ : length (take (length out₁ - m) (drop m out₁)) ≡ length input - m = simp (length-take, length-drop) (omega arith) in record { input_len = part_length input m (omega (arith, own.ensures.0)) whole; output_len = left₁ ∙ sym left }
 
 pub returns : goal.returns
 returns c =
@@ -69,11 +71,11 @@ returns c =
     let m : ℕ = length input - own.result in
     let out₁ : List ℕ = put_mid 0 (m - 0) out first.new.output in
     let same₁ : length out₁ ≡ length input = same_len_mid 0 (m - 0) out first.new.output first.auto.output ∙ same in
-    let f : List ℕ → List ℕ = seen a.self.order (rounds_by a.self.back a.self.words.now) in
+    let f : List ℕ → List ℕ = seen (order_number a.self.order) (rounds_by a.self.back a.self.words.now) in
     let part : m % 16 ≡ 0 = omega (arith, own.ensures.0) in
     let n : length (take (m - 0) input) ≡ m = simp length-take (omega arith) in
     let n' : length (take (m - 0) out) ≡ m = simp length-take (omega arith) in
-    ended f (λ l. (orders a.self.order).sixteen _) input out₁ last.new.output m m part part (le_refl m) (omega arith) whole same₁
+    ended f (λ l. (orders (order_number a.self.order)).sixteen _) input out₁ last.new.output m m part part (le_refl m) (omega arith) whole same₁
     (first_part f input out first.new.output m part (omega arith) same (first.auto.output ∙ n')
-    (first.ensures ∙ cond-true _ _ _ (are_grouped a.self.order (length a.self.words.now) (length (take (m - 0) input)) (length (take (m - 0) out)) c.requires.order_value (search rules) (rw n part) (rw n (omega arith)) (n' ∙ sym n))))
+    ((rw c.into.ensures at first.ensures) ∙ cond-true _ _ _ (are_grouped (order_number a.self.order) (length a.self.words.now) (length (take (m - 0) input)) (length (take (m - 0) out)) (is_order_number a.self.order) (search rules) (rw n part) (rw n (omega arith)) (n' ∙ sym n))))
     last.ensures
