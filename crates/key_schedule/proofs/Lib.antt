@@ -8,4 +8,5 @@ pub mod KeyState
 pub mod KeyBytes
 pub mod Parts
 pub mod Expanded
+pub mod Passing
 pub mod EqualKeys
