@@ -137,15 +137,6 @@ impl Order {
             Order::Words => from_words(block),
         }
     }
-
-    fn unpack(self, state: State) -> [u8; 16]
-        ensures { result ≡ write_in (order_number self) (block_of state) }
-    {
-        match self {
-            Order::Number => to_number(state),
-            Order::Words => to_words(state),
-        }
-    }
 }
 
 pub fn is_order(order: u32) -> bool
@@ -228,7 +219,11 @@ pub fn unpacking(order: u32, state: State, output: &mut [u8])
 {
     if let Ok(order) = Order::try_from(order) {
         if output.len() == 16 {
-            output.copy_from_slice(&order.unpack(state));
+            // Written in each arm, so that the compiler makes one store of each: of two arrays that meet it makes sixteen.
+            match order {
+                Order::Number => output.copy_from_slice(&to_number(state)),
+                Order::Words => output.copy_from_slice(&to_words(state)),
+            }
         }
     }
 }
