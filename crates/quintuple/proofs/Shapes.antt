@@ -1,4 +1,4 @@
--- What the code of each round makes is the round: a law of its moves, over the three forms that the code uses, one of the round, and the same of its undoing.
+-- What the code of each round makes is the round: a law of its moves, over the three forms that the code uses, one of the round by what they give, one of both together, and the same of its undoing.
 use mathlib.Core.Path.{◌≡◌, refl, ap, ◌∙◌}
 use Prim.Native.Nat.{ℕ}
 use lib.Bits.{bit_xor}
@@ -41,14 +41,29 @@ module _ (k : ℕ) (π0 π1 π2 : ℕ → ℕ) where
   is_unmoved m0 m1 m2 t s0 s1 s2 e0 e1 e2 =
       same_words _ _ (same_move π0 (unmove k 0) m0 t.s0 _ s0 e0 refl) (same_move π1 (unmove k 1) m1 t.s1 _ s1 e1 refl) (same_move π2 (unmove k 2) m2 t.s2 _ s2 e2 refl) refl
 
--- and with them the round, and its undoing
-pub is_subround : (k : ℕ) (s t r : State) (v u c : ℕ) → t ≡ boxed entry s → r ≡ moved_in k t
+-- the round of a state that its moves gave, and its undoing
+pub moved_round : (k : ℕ) (s t r : State) (v u c : ℕ) → t ≡ boxed entry s → r ≡ moved_in k t
     → ◌≡◌ {A = State} (record { s0 = bit_xor r.s0 c; s1 = bit_xor r.s1 v; s2 = bit_xor r.s2 u; s3 = r.s3 }) (subround k s v u c)
 unfolding subround moved_in boxed
-is_subround k s t r v u c e f =
+moved_round k s t r v u c e f =
     ap (λ (r : State). record { s0 = bit_xor r.s0 c; s1 = bit_xor r.s1 v; s2 = bit_xor r.s2 u; s3 = r.s3 }) (f ∙ ap (moved_in k) e)
 
-pub is_unsubround : (k : ℕ) (s t b r : State) (v u c : ℕ) → t ≡ unmoved_in k (record { s0 = s.s3; s1 = bit_xor s.s1 v; s2 = bit_xor s.s2 u; s3 = bit_xor s.s0 c }) → b ≡ boxed unentry t
+pub moved_unround : (k : ℕ) (s t b r : State) (v u c : ℕ) → t ≡ unmoved_in k (record { s0 = s.s3; s1 = bit_xor s.s1 v; s2 = bit_xor s.s2 u; s3 = bit_xor s.s0 c }) → b ≡ boxed unentry t
     → r ≡ exchanged_of b → r ≡ unsubround k s v u c
 unfolding unsubround unmoved_in
-is_unsubround k s t b r v u c e f g = g ∙ ap exchanged_of (f ∙ ap (boxed unentry) e)
+moved_unround k s t b r v u c e f g = g ∙ ap exchanged_of (f ∙ ap (boxed unentry) e)
+
+-- and with them the round, and its undoing, of any three moves that pass the test
+module _ (k : ℕ) (π0 π1 π2 : ℕ → ℕ) where
+  pub is_subround : T (below 32 (λ i. eqb (π0 i) (move k 0 i))) → T (below 32 (λ i. eqb (π1 i) (move k 1 i))) → T (below 32 (λ i. eqb (π2 i) (move k 2 i)))
+      → (s t : State) (s1 s2 s3 v u c : ℕ) → t ≡ boxed entry s → s3 ≡ permuted π0 t.s3 → s1 ≡ permuted π1 t.s1 → s2 ≡ permuted π2 t.s2
+      → ◌≡◌ {A = State} (record { s0 = bit_xor t.s0 c; s1 = bit_xor s1 v; s2 = bit_xor s2 u; s3 = s3 }) (subround k s v u c)
+  is_subround m0 m1 m2 s t s1 s2 s3 v u c e e3 e1 e2 =
+      moved_round k s t (record { s0 = t.s0; s1 = s1; s2 = s2; s3 = s3 }) v u c e (is_moved k π0 π1 π2 m0 m1 m2 t s1 s2 s3 e3 e1 e2)
+
+  pub is_unsubround : T (below 32 (λ i. eqb (π0 i) (unmove k 0 i))) → T (below 32 (λ i. eqb (π1 i) (unmove k 1 i))) → T (below 32 (λ i. eqb (π2 i) (unmove k 2 i)))
+      → (s t r : State) (s0 s1 s2 v u c : ℕ) → s0 ≡ permuted π0 s.s3 → s1 ≡ permuted π1 (bit_xor s.s1 v) → s2 ≡ permuted π2 (bit_xor s.s2 u)
+      → t ≡ boxed unentry (record { s0 = s0; s1 = s1; s2 = s2; s3 = bit_xor s.s0 c }) → r ≡ exchanged_of t → r ≡ unsubround k s v u c
+  is_unsubround m0 m1 m2 s t r s0 s1 s2 v u c e0 e1 e2 e f =
+      moved_unround k s (record { s0 = s0; s1 = s1; s2 = s2; s3 = bit_xor s.s0 c }) t r v u c
+      (is_unmoved k π0 π1 π2 m0 m1 m2 (record { s0 = s.s3; s1 = bit_xor s.s1 v; s2 = bit_xor s.s2 u; s3 = bit_xor s.s0 c }) s0 s1 s2 e0 e1 e2) e f
