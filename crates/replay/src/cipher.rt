@@ -8,61 +8,89 @@ use primitives::State;
 
 // ---- calls that change bytes
 
-fn unpacked(order: u32, s: State, lent: &mut [u8]) -> Result<(), Refusal> {
-    packing::unpacking(order, s, lent);
+fn unpacked(line: Line, lent: &mut [u8]) -> Result<(), Refusal> {
+    packing::unpacking(line.number(b"order"), line.four(b"args"), lent);
     Ok(())
 }
 
-fn instance(key: &[u8]) -> Gift128 {
-    Gift128::new(key).unwrap_or_default()
-}
-
-fn by_key(name: &str, line: Line, lent: &mut [u8]) -> Option<Result<(), Refusal>> {
-    let k = line.field(b"key");
-    let i = line.field(b"input");
-    let key = k.bytes();
-    let input = i.bytes();
-    let order = line.number(b"order");
-    match name {
-        "encrypt_by_key" => Some(gift128::encrypt_by_key(order, key, lent)),
-        "decrypt_by_key" => Some(gift128::decrypt_by_key(order, key, lent)),
-        "one_round" => Some(gift128::one_round(key, lent)),
-        "encrypt_blocks" => Some(gift128::encrypt_blocks(order, key, input, lent)),
-        "decrypt_blocks" => Some(gift128::decrypt_blocks(order, key, input, lent)),
-        "encrypt_block" => Some(instance(key).encrypt_block(order, lent)),
-        "decrypt_block" => Some(instance(key).decrypt_block(order, lent)),
-        _ => None,
-    }
-}
-
-fn by_words(name: &str, line: Line, lent: &mut [u8]) -> Option<Result<(), Refusal>> {
-    let w = line.field(b"words");
-    let i = line.field(b"input");
-    let words = w.words();
-    let input = i.bytes();
-    let order = line.number(b"order");
-    match name {
-        "encrypt_by_words" => Some(gift128::encrypt_by_words(order, words, lent)),
-        "decrypt_by_words" => Some(gift128::decrypt_by_words(order, words, lent)),
-        "encrypt_blocks_by_words" => Some(gift128::encrypt_blocks_by_words(
-            order, words, input, lent,
-        )),
-        "decrypt_blocks_by_words" => Some(gift128::decrypt_blocks_by_words(
-            order, words, input, lent,
-        )),
-        "unpacking" => Some(unpacked(order, line.four(b"args"), lent)),
-        _ => None,
-    }
+fn instance(line: Line) -> Gift128 {
+    Gift128::new(line.field(b"key").bytes()).unwrap_or_default()
 }
 
 // What is lent to them is lent with its whole length, and looked at so.
-fn changes(name: &str, line: Line) -> Option<bool> {
+fn changed<F: Fn(&mut [u8]) -> Result<(), Refusal>>(line: Line, call: F) -> bool
+    requires { F.IsAlwaysCallable call }
+{
     let mut lent = line.field(b"lent");
-    let answer = match by_key(name, line, lent.lent_bytes()) {
-        Some(answer) => answer,
-        None => by_words(name, line, lent.lent_bytes())?,
-    };
-    Some(line.left(lent.bytes()) && line.says_number(answers::number(answer)))
+    let answer = call(lent.lent_bytes());
+    line.left(lent.bytes()) && line.says_number(answers::number(answer))
+}
+
+fn by_key(name: &str, line: Line) -> Option<bool> {
+    match name {
+        "encrypt_by_key" => Some(changed(line, |out| {
+            gift128::encrypt_by_key(line.number(b"order"), line.field(b"key").bytes(), out)
+        })),
+        "decrypt_by_key" => Some(changed(line, |out| {
+            gift128::decrypt_by_key(line.number(b"order"), line.field(b"key").bytes(), out)
+        })),
+        "one_round" => Some(changed(
+            line,
+            |out| gift128::one_round(line.field(b"key").bytes(), out),
+        )),
+        "encrypt_blocks" => Some(changed(line, |out| {
+            gift128::encrypt_blocks(
+                line.number(b"order"),
+                line.field(b"key").bytes(),
+                line.field(b"input").bytes(),
+                out,
+            )
+        })),
+        "decrypt_blocks" => Some(changed(line, |out| {
+            gift128::decrypt_blocks(
+                line.number(b"order"),
+                line.field(b"key").bytes(),
+                line.field(b"input").bytes(),
+                out,
+            )
+        })),
+        "encrypt_block" => Some(changed(line, |out| {
+            instance(line).encrypt_block(line.number(b"order"), out)
+        })),
+        "decrypt_block" => Some(changed(line, |out| {
+            instance(line).decrypt_block(line.number(b"order"), out)
+        })),
+        _ => None,
+    }
+}
+
+fn by_words(name: &str, line: Line) -> Option<bool> {
+    match name {
+        "encrypt_by_words" => Some(changed(line, |out| {
+            gift128::encrypt_by_words(line.number(b"order"), line.field(b"words").words(), out)
+        })),
+        "decrypt_by_words" => Some(changed(line, |out| {
+            gift128::decrypt_by_words(line.number(b"order"), line.field(b"words").words(), out)
+        })),
+        "encrypt_blocks_by_words" => Some(changed(line, |out| {
+            gift128::encrypt_blocks_by_words(
+                line.number(b"order"),
+                line.field(b"words").words(),
+                line.field(b"input").bytes(),
+                out,
+            )
+        })),
+        "decrypt_blocks_by_words" => Some(changed(line, |out| {
+            gift128::decrypt_blocks_by_words(
+                line.number(b"order"),
+                line.field(b"words").words(),
+                line.field(b"input").bytes(),
+                out,
+            )
+        })),
+        "unpacking" => Some(changed(line, |out| unpacked(line, out))),
+        _ => None,
+    }
 }
 
 // ---- calls that change words
@@ -78,15 +106,18 @@ fn fills<F: Fn(&mut [u32]) -> Result<(), Refusal>>(line: Line, call: F) -> bool
 
 // The pairs that words stand for, and the words of pairs.
 fn expands(name: &str, line: Line) -> Option<bool> {
-    let key = line.field(b"key");
-    let words = line.field(b"words");
-    let pairs = line.field(b"pairs");
     match name {
         "precompute_rkeys" => Some(fills(line, |out| {
-            key_schedule::precompute_rkeys(key.bytes(), out)
+            key_schedule::precompute_rkeys(line.field(b"key").bytes(), out)
         })),
-        "pairs" => Some(fills(line, |out| round_words::pairs(words.words(), out))),
-        "words" => Some(fills(line, |out| round_words::words(pairs.words(), out))),
+        "pairs" => Some(fills(
+            line,
+            |out| round_words::pairs(line.field(b"words").words(), out),
+        )),
+        "words" => Some(fills(
+            line,
+            |out| round_words::words(line.field(b"pairs").words(), out),
+        )),
         _ => None,
     }
 }
@@ -100,6 +131,10 @@ fn new(line: Line) -> bool {
 
 // ---- calls that give a word
 
+fn args(line: Line) -> State {
+    line.four(b"args")
+}
+
 fn low(w: u32) -> u8 {
     (w % 256) as u8
 }
@@ -109,28 +144,38 @@ fn wide(s: State) -> usize {
     (s.s0 as usize) << 32 | (s.s1 as usize)
 }
 
-fn rotated(name: &str, x: u32) -> Option<u32> {
+fn rotated(name: &str, line: Line) -> Option<u32> {
     match name {
-        "byte_ror_2" => Some(primitives::byte_ror_2(x)),
-        "byte_ror_4" => Some(primitives::byte_ror_4(x)),
-        "byte_ror_6" => Some(primitives::byte_ror_6(x)),
-        "half_ror_4" => Some(primitives::half_ror_4(x)),
-        "half_ror_8" => Some(primitives::half_ror_8(x)),
-        "half_ror_12" => Some(primitives::half_ror_12(x)),
-        "nibble_ror_1" => Some(primitives::nibble_ror_1(x)),
-        "nibble_ror_2" => Some(primitives::nibble_ror_2(x)),
-        "nibble_ror_3" => Some(primitives::nibble_ror_3(x)),
+        "byte_ror_2" => Some(primitives::byte_ror_2(args(line).s0)),
+        "byte_ror_4" => Some(primitives::byte_ror_4(args(line).s0)),
+        "byte_ror_6" => Some(primitives::byte_ror_6(args(line).s0)),
+        "half_ror_4" => Some(primitives::half_ror_4(args(line).s0)),
+        "half_ror_8" => Some(primitives::half_ror_8(args(line).s0)),
+        "half_ror_12" => Some(primitives::half_ror_12(args(line).s0)),
+        "nibble_ror_1" => Some(primitives::nibble_ror_1(args(line).s0)),
+        "nibble_ror_2" => Some(primitives::nibble_ror_2(args(line).s0)),
+        "nibble_ror_3" => Some(primitives::nibble_ror_3(args(line).s0)),
         _ => None,
     }
 }
 
-fn word(name: &str, s: State) -> Option<u32> {
+fn big(s: State) -> u32 {
+    primitives::u32big(low(s.s0), low(s.s1), low(s.s2), low(s.s3))
+}
+
+fn word(name: &str, line: Line) -> Option<u32> {
     match name {
-        "ror" => Some(primitives::ror(s.s0, s.s1)),
-        "swapmovesingle" => Some(primitives::swapmovesingle(s.s0, s.s1, s.s2)),
-        "u32big" => Some(primitives::u32big(low(s.s0), low(s.s1), low(s.s2), low(s.s3))),
-        "round_constant" => Some(quintuple::consts::round_constant(wide(s))),
-        _ => rotated(name, s.s0),
+        "ror" => {
+            let s = args(line);
+            Some(primitives::ror(s.s0, s.s1))
+        }
+        "swapmovesingle" => {
+            let s = args(line);
+            Some(primitives::swapmovesingle(s.s0, s.s1, s.s2))
+        }
+        "u32big" => Some(big(args(line))),
+        "round_constant" => Some(quintuple::consts::round_constant(wide(args(line)))),
+        _ => rotated(name, line),
     }
 }
 
@@ -152,18 +197,22 @@ fn packed(line: Line) -> State {
 }
 
 fn state(name: &str, line: Line) -> Option<State> {
-    let w = line.field(b"words");
-    let words = w.words();
-    let s = line.four(b"args");
-    let i = wide(line.four(b"offset"));
     match name {
-        "sbox" => Some(quintuple::sbox(s)),
-        "inv_sbox" => Some(quintuple::inv_sbox(s)),
-        "swapmove" => Some(swapped(s)),
+        "sbox" => Some(quintuple::sbox(args(line))),
+        "inv_sbox" => Some(quintuple::inv_sbox(args(line))),
+        "swapmove" => Some(swapped(args(line))),
         "packing" => Some(packed(line)),
-        "quintuple_round" => Some(quintuple::quintuple_round(s, words, i)),
-        "inv_quintuple_round" => Some(quintuple::inv_quintuple_round(s, words, i)),
-        "first_round" => Some(quintuple::first_round(s, words)),
+        "quintuple_round" => Some(quintuple::quintuple_round(
+            args(line),
+            line.field(b"words").words(),
+            wide(line.four(b"offset")),
+        )),
+        "inv_quintuple_round" => Some(quintuple::inv_quintuple_round(
+            args(line),
+            line.field(b"words").words(),
+            wide(line.four(b"offset")),
+        )),
+        "first_round" => Some(quintuple::first_round(args(line), line.field(b"words").words())),
         _ => None,
     }
 }
@@ -173,13 +222,16 @@ pub(crate) fn right(name: &str, line: Line) -> bool {
     if name == "new" {
         return new(line);
     }
-    if let Some(right) = changes(name, line) {
+    if let Some(right) = by_key(name, line) {
+        return right;
+    }
+    if let Some(right) = by_words(name, line) {
         return right;
     }
     if let Some(right) = expands(name, line) {
         return right;
     }
-    if let Some(w) = word(name, line.four(b"args")) {
+    if let Some(w) = word(name, line) {
         return line.says_one(b"gives", w);
     }
     match state(name, line) {
