@@ -97,17 +97,17 @@ fn write_block(s: &[u8], block: &mut [u8])
     }
 }
 
-// A block, by way of its nibbles.
-fn cross(key: &[u8], block: &mut [u8], back: bool)
+// A block, by way of its N nibbles: a number that the compiler knows, and with it how far each loop of a round goes. Else it widens these loops, and a round, which stands on the stack once for each round, takes more stack and more time.
+fn cross<const N: usize>(key: &[u8], block: &mut [u8], back: bool)
     requires key_len { length key.now ≡ 16 }
+    requires nibbles { N ≡ 2 * length block.old }
     requires block_len { (length block.old % 2 ≡ 0) × (4 ≤ length block.old) × (length block.old ≤ 16) }
     ensures { block.new ≡ to_bytes (length block.old) (rounds_by back (2 * length block.old) (from_bytes key.now) (from_bytes block.old)) }
 {
-    let mut room = [0u8; 32];
-    let s = &mut room[..2 * block.len()];
-    read_block(block, s);
-    through(s, read_key(key), back);
-    write_block(s, block);
+    let mut s = [0u8; N];
+    read_block(block, &mut s);
+    through(&mut s, read_key(key), back);
+    write_block(&s, block);
 }
 
 // ---- the calls: refusals 1, 2
@@ -117,7 +117,7 @@ pub fn encrypt_by_key(key: &[u8], block: &mut [u8]) -> Result<(), Refusal>
     ensures { CiphersByKey false key.now block.old (number result) block.new }
 {
     key_code(key.len(), block.len())?;
-    cross(key, block, false);
+    cross::<32>(key, block, false);
     Ok(())
 }
 
@@ -125,7 +125,7 @@ pub fn decrypt_by_key(key: &[u8], block: &mut [u8]) -> Result<(), Refusal>
     ensures { CiphersByKey true key.now block.old (number result) block.new }
 {
     key_code(key.len(), block.len())?;
-    cross(key, block, true);
+    cross::<32>(key, block, true);
     Ok(())
 }
 
@@ -135,7 +135,7 @@ pub fn encrypt_64_by_key(key: &[u8], block: &mut [u8]) -> Result<(), Refusal>
     ensures { CiphersByKey64 false key.now block.old (number result) block.new }
 {
     key_code_64(key.len(), block.len())?;
-    cross(key, block, false);
+    cross::<16>(key, block, false);
     Ok(())
 }
 
@@ -143,6 +143,6 @@ pub fn decrypt_64_by_key(key: &[u8], block: &mut [u8]) -> Result<(), Refusal>
     ensures { CiphersByKey64 true key.now block.old (number result) block.new }
 {
     key_code_64(key.len(), block.len())?;
-    cross(key, block, true);
+    cross::<16>(key, block, true);
     Ok(())
 }
