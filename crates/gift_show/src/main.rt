@@ -1,6 +1,8 @@
 // gift_show EDITION KEY: what a node of that edition, 1 or 2, sees of the bundle on standard input, as a list; or the refusal's number. What it writes of a bundle is proved in `bundle_text`, of any bytes.
 #![tactic(auto)]
 
+ghost use Rattle.std.specs.Prelude.{◌≤◌, length, IfOk};
+
 use bundle_format::{Edition, Opened};
 use bundle_reader::open;
 use bundle_text::LINE_MOST;
@@ -51,7 +53,9 @@ fn asked_edition(rt: &impl Env) -> Edition {
 }
 
 // The key of the file that the second word names. No file has the name that is missing, or longer than a path can be. A path is text here: one that is not UTF-8 is an error.
-fn read_key<'a>(rt: &(impl Env + Files), key: &'a mut [u8]) -> io::Result<&'a [u8]> {
+fn read_key<'a>(rt: &(impl Env + Files), key: &'a mut [u8]) -> io::Result<&'a [u8]>
+    ensures { IfOk result (λ s. length s.now ≤ length key.old) }
+{
     let mut path = [0u8; 4096];
     let n = rt.arg(2, &mut path).unwrap_or(0);
     match from_utf8(&path[..n]) {
