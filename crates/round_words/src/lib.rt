@@ -1,7 +1,7 @@
 // Eighty round words and the forty pairs U, V that they stand for: the four rearrangements of key_schedule.rs, and, for whoever makes its own words, each as the other.
 #![tactic(auto)]
 
-ghost use Rattle.std.specs.Prelude.{◌≡◌, ◌<◌, length};
+ghost use Rattle.std.specs.Prelude.{◌≡◌, ◌<◌, length, ⊤, MatchResult};
 ghost use Rattle.answers.specs.Outcome.{Gives};
 ghost use Rattle.answers.specs.Refusals.{number};
 ghost use Rattle.round_words.specs.Arranged.{arranged};
@@ -109,17 +109,29 @@ fn rearrange(back: bool, given: &[u32; 80], out: &mut [u32; 80])
     }
 }
 
+// The eighty numbers, where neither they nor the room for as many are refused: 4, 3.
+#[tactic(auto, unfolding(crate::specs::Calls::row_code))]
+fn row_code(given: &[u32], out: usize) -> Result<&[u32; 80], Refusal>
+    ensures code { number result ≡ row_code (length given.now) out }
+    ensures kept { MatchResult result (λ kept. kept.now ≡ given.now) (λ _. ⊤) }
+{
+    let kept = given.as_array().ok_or(Refusal::BadWordCount)?;
+    if out != 80 {
+        return Err(Refusal::BadOutputLength);
+    }
+    Ok(kept)
+}
+
 // Eighty numbers rearranged, two for each of the forty rounds.
+#[tactic(auto, unfolding(crate::specs::Calls::row_code))]
 fn row(back: bool, given: &[u32], out: &mut [u32]) -> Result<(), Refusal>
     ensures { Gives (row_code (length given.now) (length out.old)) (rearranged back given.now) out.old (number result) out.new }
 {
-    let Some(given) = given.as_array() else {
-        return Err(Refusal::BadWordCount);
-    };
-    let Some(out) = out.as_mut_array() else {
-        return Err(Refusal::BadOutputLength);
-    };
-    rearrange(back, given, out);
+    let given = row_code(given, out.len())?;
+    // There are eighty places, as `row_code` has seen.
+    if let Some(out) = out.as_mut_array() {
+        rearrange(back, given, out);
+    }
     Ok(())
 }
 
