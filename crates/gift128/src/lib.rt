@@ -15,7 +15,7 @@ ghost use Rattle.gift128.specs.Calls.{MakesOneRound, CiphersBlockIn};
 
 use answers::Refusal;
 use key_schedule::precompute_rkeys;
-use orders::{block_code, blocks_code, eighty, key_code, many_code};
+use orders::{in_order, key_code, many_code, many_words_code, words_code};
 use packing::{NUMBER, Order, packing, unpacking};
 use primitives::State;
 use quintuple::{first_round, inv_quintuples, quintuples};
@@ -165,9 +165,7 @@ fn alone(n: usize) -> usize
 fn by_words(order: u32, rkey: &[u32], block: &mut [u8], back: bool) -> Result<(), Refusal>
     ensures { CiphersByWordsIn back order rkey.now block.old (number result) block.new }
 {
-    let order = Order::try_from(order)?;
-    let words = eighty(rkey)?;
-    block_code(block.len())?;
+    let (order, words) = in_order(order, words_code(rkey, block.len()))?;
     Way { order, words, back }.in_place(block);
     Ok(())
 }
@@ -188,10 +186,11 @@ pub fn decrypt_by_words(order: u32, rkey: &[u32], block: &mut [u8]) -> Result<()
 fn by_key(order: u32, key: &[u8], block: &mut [u8], back: bool) -> Result<(), Refusal>
     ensures { CiphersByKeyIn back order key.now block.old (number result) block.new }
 {
-    Order::try_from(order)?;
-    key_code(key.len(), block.len())?;
+    let (order, _) = in_order(order, key_code(key.len(), block.len()))?;
     let cipher = Gift128::new(key)?;
-    by_words(order, &cipher.k, block, back)
+    let words = &cipher.k;
+    Way { order, words, back }.in_place(block);
+    Ok(())
 }
 
 // One block by a key. Refusals: 13, 1, 2.
@@ -230,9 +229,8 @@ fn many_by_words(
 ) -> Result<(), Refusal>
     ensures { CiphersBlocksByWordsIn back order rkey.now input.now output.old (number result) output.new }
 {
-    let order = Order::try_from(order)?;
-    let words = eighty(rkey)?;
-    blocks_code(input.len(), output.len())?;
+    let own = many_words_code(rkey, input.len(), output.len());
+    let (order, words) = in_order(order, own)?;
     Way { order, words, back }.all(input, output);
     Ok(())
 }
@@ -269,10 +267,12 @@ fn many_by_key(
 ) -> Result<(), Refusal>
     ensures { CiphersBlocksIn back order key.now input.now output.old (number result) output.new }
 {
-    Order::try_from(order)?;
-    many_code(key.len(), input.len(), output.len())?;
+    let own = many_code(key.len(), input.len(), output.len());
+    let (order, _) = in_order(order, own)?;
     let cipher = Gift128::new(key)?;
-    many_by_words(order, &cipher.k, input, output, back)
+    let words = &cipher.k;
+    Way { order, words, back }.all(input, output);
+    Ok(())
 }
 
 // Many blocks by a key. Refusals: 13, 1, 2, 3.
