@@ -1,6 +1,6 @@
 -- A sound bench, as facts: as many records as lanes, one of them last served, each of them sound; and what keeps it so.
 use mathlib.Core.Path.{◌≡◌, refl, sym, ap, ◌∙◌}
-use mathlib.Core.Bool.{Bool, true, false, ◌&&◌}
+use mathlib.Core.Bool.{Bool, true, ◌&&◌, and-true, and_assoc}
 use mathlib.Core.List.{List, [], ◌∷◌, map}
 use mathlib.Core.Logic.{◌≢◌}
 use Prim.Native.Nat.{ℕ, zero, suc, ◌+◌, ◌≤◌, ◌<◌}
@@ -41,17 +41,17 @@ all_from : (ls : List Lane) (i : ℕ) → i < length ls → all_sound (drop i ls
 unfolding all_sound
 all_from ls i h = ap all_sound (drop-cons ls i _ h) ∙ ap (λ (j : ℕ). sound_lane (lane_at ls i) && all_sound (drop j ls)) (sym (add-one i))
 
--- looking at the records one by one, those before place i being sound
-module _ (ls : List Lane) (i : ℕ) (so_far : all_sound (drop i ls) ≡ all_sound ls) where
-  pub not_all : i < length ls → sound_lane (lane_at ls i) ≡ false → false ≡ all_sound ls
-  not_all h e = sym (all_from ls i h ∙ ap (λ (t : Bool). t && all_sound (drop (i + 1) ls)) e) ∙ so_far
+-- looking at the records one by one: whether those before place i are sound, and those from there on
+module _ (ls : List Lane) (i : ℕ) (sound : Bool) (so_far : (sound && all_sound (drop i ls)) ≡ all_sound ls) where
+  pub one_more : {ok : Bool} → ok ≡ sound_lane (lane_at ls i) → i < length ls → ((sound && ok) && all_sound (drop (i + 1) ls)) ≡ all_sound ls
+  one_more {ok} e h =
+      ap (λ (t : Bool). (sound && t) && all_sound (drop (i + 1) ls)) e
+      ∙ and_assoc sound (sound_lane (lane_at ls i)) (all_sound (drop (i + 1) ls))
+      ∙ ap (λ (t : Bool). sound && t) (sym (all_from ls i h)) ∙ so_far
 
-  pub one_more : i < length ls → sound_lane (lane_at ls i) ≡ true → all_sound (drop (i + 1) ls) ≡ all_sound ls
-  one_more h e = sym (all_from ls i h ∙ ap (λ (t : Bool). t && all_sound (drop (i + 1) ls)) e) ∙ so_far
-
-  pub all_seen : length ls ≤ i → true ≡ all_sound ls
+  pub all_seen : length ls ≤ i → sound ≡ all_sound ls
   unfolding all_sound
-  all_seen h = sym (ap all_sound (drop_of_length-le ls h)) ∙ so_far
+  all_seen h = sym (and-true sound) ∙ ap (λ (l : List Lane). sound && all_sound l) (sym (drop_of_length-le ls h)) ∙ so_far
 
 module _ (b : Bench) where
   pub is_sound : sound_bench b ≡ true → Sound b

@@ -22,16 +22,15 @@ pub struct Bench {
 
 // ---- soundness
 
-// Whether each record is sound.
+// Whether each record is sound. Each is looked at, those after one that is not sound too: every call looks at all of them, as the header for C says.
 pub fn all_sound(lanes: &[Lane]) -> bool
     ensures { result ≡ all_sound lanes.now }
 {
+    let mut sound = true;
     for l in lanes {
-        if !sound_lane(*l) {
-            return false;
-        }
+        sound &= sound_lane(*l);
     }
-    true
+    sound
 }
 
 pub fn sound(b: Bench) -> bool
