@@ -187,8 +187,10 @@ fn by_key(order: u32, key: &[u8], block: &mut [u8], back: bool) -> Result<(), Re
     ensures { CiphersByKeyIn back order key.now block.old (number result) block.new }
 {
     let (order, _) = in_order(order, key_code(key.len(), block.len()))?;
-    let cipher = Gift128::new(key)?;
-    let words = &cipher.k;
+    // Words of its own, and no `Gift128::new`: an answer that holds a cipher is copied to where it is used, and the header promises hosts less than 1 KiB of stack here.
+    let mut words = [0; 80];
+    precompute_rkeys(key, &mut words)?;
+    let words = &words;
     Way { order, words, back }.in_place(block);
     Ok(())
 }
@@ -269,8 +271,9 @@ fn many_by_key(
 {
     let own = many_code(key.len(), input.len(), output.len());
     let (order, _) = in_order(order, own)?;
-    let cipher = Gift128::new(key)?;
-    let words = &cipher.k;
+    let mut words = [0; 80];
+    precompute_rkeys(key, &mut words)?;
+    let words = &words;
     Way { order, words, back }.all(input, output);
     Ok(())
 }
