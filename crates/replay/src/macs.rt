@@ -4,7 +4,7 @@
 use crate::benches::words_told;
 use crate::text::Line;
 use answers::Refusal;
-use cmac::{Fed, Mac, Started};
+use cmac::{Checked, Fed, Mac, Started};
 
 // ---- states
 
@@ -33,8 +33,8 @@ fn checked(line: Line) -> bool {
     let key = line.field(b"key");
     let message = line.field(b"message");
     let tag = line.field(b"tag");
-    let c = cmac::check(key.bytes(), message.bytes(), tag.bytes());
-    line.says_number(answers::number(c)) && line.says_one(b"yes", c.unwrap_or(false) as u32)
+    let c = Checked::from(cmac::check(key.bytes(), message.bytes(), tag.bytes()));
+    line.says_number(c.code) && line.says_one(b"yes", c.yes as u32)
 }
 
 fn started(line: Line) -> bool {
