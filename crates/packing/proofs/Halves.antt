@@ -1,4 +1,4 @@
--- A block and its two halves: their bits gathered into words and scattered again; and the bytes of a block, and of its words, as the library reads and writes them.
+-- A block and its two halves: their bits gathered into words and scattered again; and the bytes of a block, and of its words, as the library reads them and as they are written, half by half.
 use mathlib.Core.Path.{◌≡◌, sym, ap, ap₂, ◌∙◌}
 use mathlib.Core.List.{List, [], ◌∷◌, ◌++◌}
 use Prim.Native.Nat.{ℕ, ◌+◌, ◌*◌, ◌/◌, ◌%◌, ◌^◌, ◌<◌}
@@ -6,7 +6,7 @@ use native.Mathlib.Nat.{div-one}
 use native.Mathlib.Omega.{arith}
 use lib.Dec.{T, ltb, lit<}
 use lib.ListN.{length}
-use Rattle.std.specs.Int.{w128, from_be_bytes, to_be_bytes}
+use Rattle.std.specs.Int.{w128, from_be_bytes}
 use Rattle.bits.specs.Digit.{digit, bit}
 use Rattle.bits.proofs.Digits.{number_cong, number-digit, digit_lt, digit_top, digit-below, digit-digit}
 use Rattle.bits.proofs.Bits.{bit-digit, bit_ext}
@@ -61,14 +61,10 @@ scattered_half x h l =
 
 -- ---- bytes
 
--- what the library reads from sixteen bytes and writes as such
+-- what the library reads from sixteen bytes
 pub reads : (bs : List ℕ) → length bs ≡ 16 → from_be_bytes w128 bs ≡ from_bytes bs
 unfolding from_bytes
 reads = each 16 (λ bs. from_be_bytes w128 bs ≡ from_bytes bs) (λ _ _ _ _ _ _ _ _ _ _ _ _ _ _ _ _. omega arith)
-
-pub writes : (x : ℕ) → to_be_bytes w128 x ≡ to_bytes 16 x
-unfolding digit to_bytes
-writes x = rw div-one
 
 pub upper-half : (x : ℕ) → x < 2 ^ 128 → x / 2 ^ 64 ≡ half_of x 1
 unfolding digit
@@ -78,8 +74,16 @@ pub lower-half : (x : ℕ) → x % 2 ^ 64 ≡ half_of x 0
 unfolding digit
 lower-half x = rw div-one
 
-pub halves : (x : ℕ) → x < 2 ^ 128 → half_of x 1 * 2 ^ 64 + half_of x 0 ≡ x
-halves x h = rw (sym (upper-half x h), sym (lower-half x)) (omega arith)
+-- the bytes of a block are those of its halves
+pub halved : (x : ℕ) → to_bytes 8 (half_of x 1) ++ to_bytes 8 (half_of x 0) ≡ to_bytes 16 x
+unfolding to_bytes
+halved x =
+    λ i.
+    d 1 7 tt i ∷ d 1 6 tt i ∷ d 1 5 tt i ∷ d 1 4 tt i ∷ d 1 3 tt i ∷ d 1 2 tt i ∷ d 1 1 tt i ∷ d 1 0 tt i
+    ∷ d 0 7 tt i ∷ d 0 6 tt i ∷ d 0 5 tt i ∷ d 0 4 tt i ∷ d 0 3 tt i ∷ d 0 2 tt i ∷ d 0 1 tt i ∷ d 0 0 tt i ∷ []
+  where
+    d : (h m : ℕ) → T (ltb m 8) → digit 256 (half_of x h) m ≡ digit 256 x (8 * h + m)
+    d h m t = digit-digit 256 (lit< tt) 8 x h m (lit< t)
 
 -- two words side by side: the upper one and the lower
 module _ (a b : ℕ) (ha : a < 2 ^ 32) (hb : b < 2 ^ 32) where
@@ -90,41 +94,17 @@ module _ (a b : ℕ) (ha : a < 2 ^ 32) (hb : b < 2 ^ 32) where
   lower : (m : ℕ) → T (ltb m 4) → digit 256 (a * 2 ^ 32 + b) m ≡ digit 256 b m
   lower m t = digit-below 256 (lit< tt) 4 a b m (lit< t)
 
--- and two halves
-module _ (a b : ℕ) (ha : a < 2 ^ 64) (hb : b < 2 ^ 64) where
-  upper-eight : (m : ℕ) → T (ltb m 8) → digit 256 (a * 2 ^ 64 + b) (8 + m) ≡ digit 256 a m
-  upper-eight m t =
-      sym (digit-digit 256 (lit< tt) 8 (a * 2 ^ 64 + b) 1 m (lit< t)) ∙ ap (λ (w : ℕ). digit 256 w m) (digit_top (2 ^ 64) (lit< tt) 1 a b ha hb)
-
-  lower-eight : (m : ℕ) → T (ltb m 8) → digit 256 (a * 2 ^ 64 + b) m ≡ digit 256 b m
-  lower-eight m t = digit-below 256 (lit< tt) 8 a b m (lit< t)
-
-pub writes-words : (s : State) → Words s → to_be_bytes w128 ((s.s0 * 2 ^ 32 + s.s1) * 2 ^ 64 + (s.s2 * 2 ^ 32 + s.s3)) ≡ write_words (block_of s)
+-- and in order 1 the halves are two words each
+pub words-halved : (s : State) → Words s → to_bytes 8 (s.s0 * 2 ^ 32 + s.s1) ++ to_bytes 8 (s.s2 * 2 ^ 32 + s.s3) ≡ write_words (block_of s)
 unfolding to_bytes write_words
-writes-words s h =
-    writes ((s.s0 * 2 ^ 32 + s.s1) * 2 ^ 64 + (s.s2 * 2 ^ 32 + s.s3))
-    ∙ (λ i.
-    u 7 tt i ∷ u 6 tt i ∷ u 5 tt i ∷ u 4 tt i ∷ u 3 tt i ∷ u 2 tt i ∷ u 1 tt i ∷ u 0 tt i
-    ∷ l 7 tt i ∷ l 6 tt i ∷ l 5 tt i ∷ l 4 tt i ∷ l 3 tt i ∷ l 2 tt i ∷ l 1 tt i ∷ l 0 tt i ∷ [])
-    ∙ (λ i.
+words-halved s h =
+    (λ i.
     u01 3 tt i ∷ u01 2 tt i ∷ u01 1 tt i ∷ u01 0 tt i ∷ l01 3 tt i ∷ l01 2 tt i ∷ l01 1 tt i ∷ l01 0 tt i
     ∷ u23 3 tt i ∷ u23 2 tt i ∷ u23 1 tt i ∷ u23 0 tt i ∷ l23 3 tt i ∷ l23 2 tt i ∷ l23 1 tt i ∷ l23 0 tt i ∷ [])
     ∙ sym (λ i. to_bytes 4 (w 0 tt i) ++ to_bytes 4 (w 1 tt i) ++ to_bytes 4 (w 2 tt i) ++ to_bytes 4 (w 3 tt i))
   where
-    high : s.s0 * 2 ^ 32 + s.s1 < 2 ^ 64
-    high = omega (arith, h.0, h.1)
-
-    low : s.s2 * 2 ^ 32 + s.s3 < 2 ^ 64
-    low = omega (arith, h.2, h.3)
-
     w : (j : ℕ) → T (ltb j 4) → word 128 (block_of s) j ≡ word_of s j
     w j t = word_block_of s h j (lit< t)
-
-    u : (m : ℕ) → T (ltb m 8) → digit 256 ((s.s0 * 2 ^ 32 + s.s1) * 2 ^ 64 + (s.s2 * 2 ^ 32 + s.s3)) (8 + m) ≡ digit 256 (s.s0 * 2 ^ 32 + s.s1) m
-    u = upper-eight (s.s0 * 2 ^ 32 + s.s1) (s.s2 * 2 ^ 32 + s.s3) high low
-
-    l : (m : ℕ) → T (ltb m 8) → digit 256 ((s.s0 * 2 ^ 32 + s.s1) * 2 ^ 64 + (s.s2 * 2 ^ 32 + s.s3)) m ≡ digit 256 (s.s2 * 2 ^ 32 + s.s3) m
-    l = lower-eight (s.s0 * 2 ^ 32 + s.s1) (s.s2 * 2 ^ 32 + s.s3) high low
 
     u01 : (m : ℕ) → T (ltb m 4) → digit 256 (s.s0 * 2 ^ 32 + s.s1) (4 + m) ≡ digit 256 s.s0 m
     u01 = upper s.s0 s.s1 h.0 h.1

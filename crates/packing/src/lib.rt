@@ -3,7 +3,7 @@
 // word j is piece j of the upper half above piece j of the lower.
 #![tactic(auto)]
 
-ghost use Rattle.std.specs.Prelude.{◌≡◌, ◌+◌, ◌*◌, ◌^◌, ◌<◌};
+ghost use Rattle.std.specs.Prelude.{◌≡◌, ◌+◌, ◌*◌, ◌^◌, ◌<◌, ◌++◌, length};
 ghost use Rattle.bits.specs.Digit.{digit};
 ghost use Rattle.published.specs.Bytes.{to_bytes};
 ghost use Rattle.published.specs.Seen.{is_order, read_in, write_in};
@@ -145,11 +145,13 @@ pub fn is_order(order: u32) -> bool
     Order::try_from(order).is_ok()
 }
 
-// Two halves as one number, the upper one first.
-fn both(high: u64, low: u64) -> u128
-    ensures { result ≡ high * 2 ^ 64 + low }
+// A block from its two halves, the upper one first. Half by half, because the compiler makes one store of the bytes of a number of 64 bits, and of one of 128 bits sixteen.
+fn put(high: u64, low: u64, output: &mut [u8])
+    requires { length output.old ≡ 16 }
+    ensures { output.new ≡ to_bytes 8 high ++ to_bytes 8 low }
 {
-    (high as u128) * 0x10000000000000000 + (low as u128)
+    output[..8].copy_from_slice(&bytes(high));
+    output[8..].copy_from_slice(&bytes(low));
 }
 
 // ---- order 0: the block is one number
@@ -168,10 +170,11 @@ fn from_number(block: &[u8; 16]) -> State
     }
 }
 
-fn to_number(state: State) -> [u8; 16]
-    ensures { result ≡ write_in 0 (block_of state) }
+fn to_number(state: State, output: &mut [u8])
+    requires { length output.old ≡ 16 }
+    ensures { output.new ≡ write_in 0 (block_of state) }
 {
-    both(scatter(half(state, 1)), scatter(half(state, 0))).to_be_bytes()
+    put(scatter(half(state, 1)), scatter(half(state, 0)), output);
 }
 
 // ---- order 1: the block is its four words, and no bit has to move
@@ -195,10 +198,11 @@ fn pair(high: u32, low: u32) -> u64
     (high as u64) * 0x100000000 + (low as u64)
 }
 
-fn to_words(state: State) -> [u8; 16]
-    ensures { result ≡ write_in 1 (block_of state) }
+fn to_words(state: State, output: &mut [u8])
+    requires { length output.old ≡ 16 }
+    ensures { output.new ≡ write_in 1 (block_of state) }
 {
-    both(pair(state.s0, state.s1), pair(state.s2, state.s3)).to_be_bytes()
+    put(pair(state.s0, state.s1), pair(state.s2, state.s3), output);
 }
 
 // ---- either
@@ -219,10 +223,9 @@ pub fn unpacking(order: u32, state: State, output: &mut [u8])
 {
     if let Ok(order) = Order::try_from(order) {
         if output.len() == 16 {
-            // Written in each arm, so that the compiler makes one store of each: of two arrays that meet it makes sixteen.
             match order {
-                Order::Number => output.copy_from_slice(&to_number(state)),
-                Order::Words => output.copy_from_slice(&to_words(state)),
+                Order::Number => to_number(state, output),
+                Order::Words => to_words(state, output),
             }
         }
     }
@@ -243,7 +246,7 @@ pub fn unpacking_words(state: State, output: &mut [u8])
     ensures { output.new ≡ unpacked 1 state output.old }
 {
     if 16 == output.len() {
-        output.copy_from_slice(&to_words(state));
+        to_words(state, output);
     }
 }
 

@@ -1,13 +1,12 @@
 -- Blocks in lanes: what is loaded stands in its lane as the order reads it, and what is saved are the bytes that the order writes.
 use mathlib.Core.Path.{◌≡◌, sym, ap, ap₂, ◌∙◌}
-use mathlib.Core.List.{List, [], ◌∷◌, ◌++◌, append-nil}
+use mathlib.Core.List.{List, [], ◌∷◌, ◌++◌}
 use mathlib.Core.Bool.{Bool, true, false, ◌&&◌, and-false}
 use Prim.Native.Nat.{ℕ, zero, suc, ◌+◌, ◌-◌, ◌*◌, ◌/◌, ◌%◌, ◌^◌, ◌≤◌, ◌<◌, min}
-use native.Mathlib.Nat.{le_of_eq}
 use native.Mathlib.Omega.{arith}
 use lib.Dec.{T, eqb, ltb, lit<}
-use lib.ListN.{length, take, drop, get_or, length-take, length-drop, length-append, drop_of_length-le}
-use lib.Seq.{take_all, get_or-take, get_or-drop, take_at, drop_at, drop-drop}
+use lib.ListN.{length, take, drop, get_or, length-take, length-drop}
+use lib.Seq.{take_all, get_or-take, get_or-drop}
 use borrow.Author.Tests.{eq-eqb, ne_eqb}
 use borrow.Rule.Slice.PartMut.{put_mid}
 use Rattle.bits.specs.Digit.{digit, bit, of_bits}
@@ -20,6 +19,7 @@ use Rattle.published.proofs.Gift128.{block-lt}
 use Rattle.published.proofs.Reading.{bit-from_bytes, bytes_take, bytes_drop}
 use Rattle.published.proofs.Seen.{inwards, outwards}
 use Rattle.published.proofs.Groups.{joined_cong, joined-put}
+use Rattle.packing.proofs.Laid as put
 use Rattle.turning.specs.Slices.{lane, block_at, whole}
 use Rattle.turning.specs.Inner.{Turned, Halves, Placed, inward_in, outward_in, pairwise}
 use Rattle.turning.proofs.Crossing.{two}
@@ -162,14 +162,7 @@ module _ (order : ℕ) (x y z : List ℕ) (placed : Placed (λ i. outward_in ord
 
 -- eight bytes and then eight, put into a block
 pub laid : (a b block x y : List ℕ) → length a ≡ 8 → length block ≡ 16 → x ≡ a → y ≡ b → put_mid 8 (length (x ++ drop 8 block) - 8) (x ++ drop 8 block) y ≡ a ++ b
-laid a b block x y la lb ex ey =
-    ap₂ (λ (f e : List ℕ). put_mid 8 (length (f ++ drop 8 block) - 8) (f ++ drop 8 block) e) ex ey
-    ∙ ap (λ (n : ℕ). put_mid 8 n (a ++ drop 8 block) b) eight
-    ∙ ap₂ (λ (f e : List ℕ). f ++ (b ++ e)) (take_at a (drop 8 block) 8 la) (ap (drop 8) (drop_at a (drop 8 block) 8 la) ∙ drop-drop 8 8 block ∙ drop_of_length-le block (le_of_eq lb))
-    ∙ ap (λ (e : List ℕ). a ++ e) (append-nil b)
-  where
-    eight : length (a ++ drop 8 block) - 8 ≡ 8
-    eight = simp (length-append, length-drop) (omega arith)
+laid = put.laid
 
 -- block b was put, and then all are
 pub block-put : (g : ℕ → List ℕ) (out new rest : List ℕ) (b : ℕ) → 16 * b ≤ length out → length new ≡ 16 → take (16 * b) out ≡ joined b g → new ≡ g b

@@ -10,14 +10,14 @@ use Rattle.packing.proofs.unpacking.Goals as goal
 pub returns-in-Number : goal.returns-in-Number
 returns-in-Number c =
     let a = c.args in
-    c.copy_from_slice.ensures.after ∙ c.to_number.ensures
+    c.to_number.ensures
     ∙ sym (unpacked-block 0 a.state a.output.now refl c.if-output-eq16.true)
     ∙ ap (λ (n : ℕ). unpacked n a.state a.output.now) (ap order_number (sym c.in-Number.is) ∙ c.in-Ok.ensures)
 
 pub returns-in-Words : goal.returns-in-Words
 returns-in-Words c =
     let a = c.args in
-    c.copy_from_slice-in-Words.ensures.after ∙ c.to_words.ensures
+    c.to_words.ensures
     ∙ sym (unpacked-block 1 a.state a.output.now refl c.if-output-eq16.true)
     ∙ ap (λ (n : ℕ). unpacked n a.state a.output.now) (ap order_number (sym c.in-Words.is) ∙ c.in-Ok.ensures)
 

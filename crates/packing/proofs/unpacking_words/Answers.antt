@@ -6,7 +6,7 @@ use Rattle.packing.proofs.unpacking_words.Goals as goal
 pub returns-then-output-eq16 : goal.returns-then-output-eq16
 returns-then-output-eq16 c =
     let a = c.args in
-    c.copy_from_slice.ensures.after ∙ c.to_words.ensures ∙ sym (unpacked-block 1 a.state a.output.now refl (sym c.if-output-eq16.true))
+    c.to_words.ensures ∙ sym (unpacked-block 1 a.state a.output.now refl (sym c.if-output-eq16.true))
 
 pub returns-else-output-eq16 : goal.returns-else-output-eq16
 returns-else-output-eq16 c =
