@@ -12,7 +12,7 @@ use lib.Seq.{take_all, take-append-le, take-suc-set}
 use borrow.Author.Tests.{leb-true, leb-false, ltb-true, ltb-false, eq-eqb, ne_eqb, lt-ltb}
 use Rattle.bits.proofs.Computed.{cond-true, cond-false}
 use Rattle.text.specs.Written.{written, shown}
-use Rattle.text.proofs.Texts.{shown-written}
+use Rattle.text.proofs.Texts.{written-fits, shown-written}
 use Rattle.line_answers.specs.Line.{is_good, bad_line, answer_of}
 use Rattle.lines.specs.declared.Reader.{Reader}
 use Rattle.lines.specs.Input.{lines_from, answer_line, answers, first_line, done_line, output_of}
@@ -109,6 +109,14 @@ module _ (r : Reader) (b : ℕ) where
   fed_other : eqb b 10 ≡ false → fed_by r b ≡ record { reader = kept r b; text = written [] }
   unfolding fed_by
   fed_other = cond-false (eqb b 10) _ _
+
+  -- what comes of a byte fits into a text
+  pub fed-fits : (fed_by r b).text.count ≤ 64
+  fed-fits = go (eqb b 10) refl
+    where
+      go : (t : Bool) → eqb b 10 ≡ t → (fed_by r b).text.count ≤ 64
+      go true p = rw (fed_newline p) (written-fits (answer_line (next_line r.lines) (held r)))
+      go false p = rw (fed_other p) (written-fits [])
 
 -- the answers to the lines of what is left, and the closing line
 abbrev rest : List ℕ → List ℕ → ℕ → List ℕ

@@ -2,5 +2,6 @@
 pub mod Steps
 pub mod Halves
 pub mod Laid
+pub mod Placed
 pub mod Inverse
 pub mod Small

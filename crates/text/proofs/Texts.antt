@@ -3,7 +3,7 @@ use mathlib.Core.Path.{◌≡◌, refl, sym, ap, ◌∙◌, subst}
 use mathlib.Core.Bool.{Bool, true, false}
 use mathlib.Core.List.{List, [], ◌∷◌, ◌++◌, append_assoc, append-nil}
 use Prim.Native.Nat.{ℕ, ◌+◌, ◌≤◌, ◌<◌, min}
-use native.Mathlib.Nat.{min-eq_left}
+use native.Mathlib.Nat.{min-eq_left, min-le_right}
 use native.Mathlib.Numerals.{add-one}
 use native.Mathlib.Omega.{arith}
 use lib.Dec.{leb}
@@ -67,6 +67,11 @@ take_most n k m l long e = go (leb n k) refl
     go : (t : Bool) → leb n k ≡ t → take m l ≡ take n l
     go true p = let h : n ≤ k = leb-true n k p in let same : m ≡ n = omega arith in ap (λ (i : ℕ). take i l) same
     go false p = let h : k < n = leb-false n k p in take_all m l (omega arith) ∙ sym (take_all n l (omega arith))
+
+-- no text is longer than its 64 bytes
+pub written-fits : (l : List ℕ) → (written l).count ≤ 64
+unfolding written
+written-fits l = min-le_right (length l) 64
 
 pub shown-written : (l : List ℕ) → length l ≤ 64 → shown (written l) ≡ l
 unfolding written
