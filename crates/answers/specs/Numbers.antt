@@ -1,4 +1,4 @@
--- The numbers given back, by name, as src/lib.rt has them for code.
+-- The numbers given back, by name: done, and those of the refusals that src/lib.rt names.
 use Rattle.std.specs.Prelude.{ℕ}
 
 abbrev pub DONE : ℕ
